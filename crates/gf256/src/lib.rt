@@ -1,0 +1,14 @@
+//! The field GF(256) over which RFC 5510 builds its Reed-Solomon code: its elements, powers of alpha, values
+//! of polynomials, and sums of rows. Nothing here takes memory or refuses.
+#![tactic(auto)]
+
+mod element;
+pub mod laws;
+mod polynomial;
+mod row;
+#[cfg(test)]
+mod tests;
+
+pub use element::{Gf, add, inv, mul, power};
+pub use polynomial::eval;
+pub use row::row_add;

@@ -1,0 +1,64 @@
+use super::{Gf, add, eval, inv, mul, power, row_add};
+use std::test::Fail;
+
+#[test]
+fn products_inverses_and_powers(rt: HostRuntime) {
+    let products = [
+        (0x02, 0x80, 0x1D),
+        (0x03, 0x03, 0x05),
+        (0x02, 0xFA, 0xE9),
+        (0x03, 0x31, 0x53),
+        (0x02, 0x8E, 0x01),
+    ];
+    for (a, b, product) in products {
+        assert_eq!(rt; mul(Gf(a), Gf(b)), Gf(product), "{a} times {b}");
+        assert_eq!(rt; mul(Gf(b), Gf(a)), Gf(product), "{b} times {a}");
+    }
+    assert_eq!(rt; inv(Gf(0x02)), Gf(0x8E));
+    assert_eq!(rt; add(Gf(0x53), Gf(0xCA)), Gf(0x99));
+    let powers = [
+        (0, 0x01),
+        (1, 0x02),
+        (8, 0x1D),
+        (255, 0x01),
+        (256, 0x02),
+        (4294967295, 0x01),
+    ];
+    for (j, element) in powers {
+        assert_eq!(rt; power(j), Gf(element), "alpha to the {j}");
+    }
+}
+
+#[test]
+fn values_of_polynomials(rt: HostRuntime) {
+    // 1 + 2x + 3x^2, at 0, at 1 and at alpha: 3 times 4 is 0C.
+    let coefs = [0x01, 0x02, 0x03];
+    assert_eq!(rt; eval(&coefs, Gf(0x00)), Gf(0x01));
+    assert_eq!(rt; eval(&coefs, Gf(0x01)), Gf(0x00));
+    assert_eq!(rt; eval(&coefs, Gf(0x02)), Gf(0x09));
+    assert_eq!(rt; eval(&coefs[..0], Gf(0x02)), Gf(0x00));
+}
+
+#[test]
+fn rows_of_every_length(rt: HostRuntime) -> Result<(), Fail> {
+    let mut src = Vec::new(rt.alloc());
+    let mut dst = Vec::new(rt.alloc());
+    for i in 0..130u8 {
+        src.push(i.wrapping_mul(7).wrapping_add(3))?;
+        dst.push(i.wrapping_mul(11).wrapping_add(5))?;
+    }
+    for length in 0..131usize {
+        let by = Gf(0x53);
+        let mut row = dst.clone()?;
+        row.truncate(length);
+        let mut shown = src.clone()?;
+        shown.truncate(length);
+        assert!(rt; row.len() == shown.len());
+        row_add(&mut row, &shown, by);
+        for (i, sum) in row.iter().enumerate() {
+            let term = mul(by, Gf(src[i]));
+            assert_eq!(rt; Gf(*sum), add(Gf(dst[i]), term), "place {i} of {length}");
+        }
+    }
+    Ok(())
+}
