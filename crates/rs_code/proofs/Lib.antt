@@ -1,0 +1,5 @@
+pub mod Polynomials
+pub mod Interpolate
+pub mod Unique
+pub mod Cuts
+pub mod BlockSymbols

@@ -1,0 +1,3 @@
+pub mod Symbol
+pub mod SourceRows
+pub mod Interpolation
