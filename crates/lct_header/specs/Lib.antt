@@ -1,0 +1,4 @@
+pub mod Extensions
+pub mod Word
+pub mod Header
+pub mod Faults
