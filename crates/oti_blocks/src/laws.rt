@@ -1,0 +1,33 @@
+//! Laws of the partition. They speak of the definitions alone.
+
+ghost use Rattle.std.specs.Prelude.{◌≡◌, ℕ, ◌+◌, ◌<◌, ◌≤◌, length, sum};
+ghost use Rattle.oti_blocks.specs.Partition.{ObjectInformation, IsSound, HasSource, sources, blocks, sizes, size_at, start_at};
+
+/// There are as many sizes as blocks, at least one and no more than source symbols.
+pub fn one_size_a_block()
+    ensures count { (o : ObjectInformation) → IsSound o → length (sizes o) ≡ blocks o }
+    ensures some { (o : ObjectInformation) → IsSound o → 1 ≤ blocks o }
+    ensures within { (o : ObjectInformation) → IsSound o → blocks o ≤ sources o }
+{}
+
+/// The blocks have all source symbols.
+pub fn sizes_add_up()
+    ensures { (o : ObjectInformation) → IsSound o → sum (sizes o) ≡ sources o }
+{}
+
+/// A block has at least one source symbol and at most as many as stated.
+pub fn sizes_are_bounded()
+    ensures some { (o : ObjectInformation) → IsSound o → (b : ℕ) → b < blocks o → 1 ≤ size_at o b }
+    ensures most { (o : ObjectInformation) → IsSound o → (b : ℕ) → b < blocks o → size_at o b ≤ o.max_block }
+{}
+
+/// A block starts where the one before it ends.
+pub fn blocks_follow_each_other()
+    ensures { (o : ObjectInformation) → IsSound o → (b : ℕ) → b < blocks o → start_at o (b + 1) ≡ start_at o b + size_at o b }
+{}
+
+/// Each source symbol is in exactly one block.
+pub fn one_block_a_source()
+    ensures found { (o : ObjectInformation) → IsSound o → (s : ℕ) → s < sources o → (b : ℕ) × HasSource o b s }
+    ensures alone { (o : ObjectInformation) → IsSound o → (s b c : ℕ) → HasSource o b s → HasSource o c s → c ≡ b }
+{}

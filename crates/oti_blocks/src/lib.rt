@@ -1,0 +1,16 @@
+//! The FEC Object Transmission Information of an object, and how it cuts the object into source symbols
+//! and blocks (RFC 5052, section 9.1). No call takes memory.
+#![tactic(auto)]
+
+mod blocks;
+mod fault;
+mod information;
+pub mod laws;
+mod wire;
+
+pub use fault::OtiFault;
+pub use information::Oti;
+pub use wire::read_fti;
+
+#[cfg(test)]
+mod tests;
