@@ -1,0 +1,10 @@
+/// What fields have under a name.
+#[derive(Clone, Copy, Debug, PartialEq, Eq)]
+pub enum Field<'a> {
+    /// No pair has the name.
+    Absent,
+    /// One pair has it, with this value.
+    Once(&'a str),
+    /// More than one pair has it.
+    Twice,
+}
