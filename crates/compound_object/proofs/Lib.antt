@@ -1,0 +1,5 @@
+pub mod OnesSums
+pub mod Refusals
+pub mod Sayings
+pub mod Layouts
+pub mod Spelled
