@@ -1,0 +1,2 @@
+pub mod Carousel
+pub mod Instances
