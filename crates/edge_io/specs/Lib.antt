@@ -1,0 +1,10 @@
+pub mod Faults
+pub mod Log
+pub mod MemShelves
+pub mod NamedFiles
+pub mod Nexts
+pub mod Reads
+pub mod ShelfCalls
+pub mod Shelved
+pub mod Stages
+pub mod StatedCalls
