@@ -1,0 +1,62 @@
+ghost use Rattle.std.specs.Prelude.{◌≡◌, ◌+◌, ◌-◌, ◌^◌, ◌≤◌, ℕ, List, [], ◌∷◌, ◌++◌, OnOk, OnErr, IsErrOf, None, slice_get, min};
+ghost use Rattle.edge_io.specs.Faults.{Rose};
+
+use crate::{Event, Unheard, Watch};
+
+/// A watcher that counts the events and keeps none of them.
+#[derive(Drop, Debug)]
+pub struct Counter {
+    /// How many events it heard.
+    count: u64,
+    /// How often it was deaf, up to the end of the type.
+    failed: u64,
+}
+
+impl Counter {
+    /// A counter that has heard nothing.
+    pub fn new() -> Counter
+        ensures count { result.count ≡ 0 }
+        ensures failed { result.failed ≡ 0 }
+    {
+        Counter {
+            count: 0,
+            failed: 0,
+        }
+    }
+}
+
+impl Watch for Counter {
+    ghost use Rattle.watch_list.specs.declared.event.Event.{Event};
+
+    ghost told = { λ _. ⊥ };
+
+    ghost number = { λ s. s.count };
+
+    ghost record_of = { λ _. [] };
+
+    ghost faults = { λ s. s.failed };
+
+    ghost refuses = { λ s _ n. (s.count ≡ 2 ^ 64 - 1) × (n ≡ min (s.failed + 1) (2 ^ 64 - 1)) };
+
+    /// It is deaf exactly where its count is full, and never wants memory.
+    fn hear(&mut self, _event: &Event) -> Result<(), Unheard> {
+        match self.count.checked_add(1) {
+            Some(count) => {
+                self.count = count;
+                Ok(())
+            }
+            None => {
+                self.failed = self.failed.saturating_add(1);
+                Err(Unheard::Deaf)
+            }
+        }
+    }
+
+    fn tally(&self) -> u64 {
+        self.count
+    }
+
+    fn heard(&self, _place: u64) -> Option<Event> {
+        None
+    }
+}
