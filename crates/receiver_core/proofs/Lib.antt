@@ -1,0 +1,13 @@
+pub mod Below
+pub mod Places
+pub mod Lookups
+pub mod Filled
+pub mod Joining
+pub mod Sums
+pub mod Counting
+pub mod Completing
+pub mod Bests
+pub mod Surveys
+pub mod Extending
+pub mod Admitting
+pub mod Keeping

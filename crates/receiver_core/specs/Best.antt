@@ -1,0 +1,58 @@
+-- The best instance of the objects that are whole (RFC 6968, sections 3.2 and 4).
+use Rattle.std.specs.Prelude.{ℕ, ◌&&◌, ◌||◌, ◌==◌, Bool, nat_lt, if◌then◌else◌, List, [], ◌∷◌, Option, Some, None, option_map}
+use Rattle.std.specs.Option.{option_and_then}
+use Rattle.std.specs.List.{filter_map}
+use Rattle.std.specs.FinMap.{keys}
+use Rattle.carousel_cid.specs.Instances.{Shown}
+use Rattle.carousel_cid.specs.Carousel.{kind_of_object}
+use Rattle.carousel_cid.specs.declared.file_of.FileOf.{FileOf}
+use Rattle.carousel_cid.specs.declared.kind.Kind.{Kind}
+use Rattle.carousel_cid.specs.declared.kind.Kind.TheVariants.{File, Descriptor, Unusable}
+use Rattle.receiver_core.specs.Held.{Held}
+use Rattle.receiver_core.specs.Whole.{whole}
+
+-- the whole objects, by their identifiers
+abbrev pub Objects : Type 0
+Objects = ℕ → Option (List ℕ)
+
+abbrev pub file_of_kind : ℕ → Kind → Option FileOf
+file_of_kind t (File location kind body) = Some (record { toi = t; location = location; kind = kind; body = body })
+file_of_kind t (Descriptor number listed) = None
+file_of_kind t (Unusable cause) = None
+
+-- the object as a file
+abbrev pub file_of : Objects → ℕ → Option FileOf
+file_of objects t = option_and_then (λ bytes. file_of_kind t (kind_of_object bytes)) (objects t)
+
+-- all of these objects as files, in order
+abbrev pub files_of : Objects → List ℕ → Option (List FileOf)
+files_of objects [] = Some []
+files_of objects (t ∷ ts) = option_and_then (λ f. option_map (λ fs. f ∷ fs) (files_of objects ts)) (file_of objects t)
+
+abbrev pub instance_of_kind : Objects → ℕ → Kind → Option Shown
+instance_of_kind objects t (File location kind body) = None
+instance_of_kind objects t (Descriptor number listed) =
+    option_map (λ fs. record { number = number; descriptor_toi = t; listed = listed; files = fs }) (files_of objects listed)
+instance_of_kind objects t (Unusable cause) = None
+
+-- The instance that a complete descriptor announces: the object is whole and reads as a descriptor, and
+-- each object that it lists is whole and reads as a file.
+unfoldable pub complete : Objects → ℕ → Option Shown
+complete objects t = option_and_then (λ bytes. instance_of_kind objects t (kind_of_object bytes)) (objects t)
+
+-- a greater number, or the same number and a lesser identifier
+abbrev pub is_better : Shown → Shown → Bool
+is_better i j = nat_lt j.number i.number || ((i.number == j.number) && nat_lt i.descriptor_toi j.descriptor_toi)
+
+abbrev pub better_of : Shown → Option Shown → Shown
+better_of i None = i
+better_of i (Some j) = if is_better j i then j else i
+
+-- the best of these
+abbrev pub best_of : List Shown → Option Shown
+best_of [] = None
+best_of (i ∷ is) = Some (better_of i (best_of is))
+
+-- the best instance of the descriptors that are complete among what is held
+unfoldable pub best : Held → Option Shown
+best held = best_of (filter_map (complete (whole held)) (keys held.objects))
