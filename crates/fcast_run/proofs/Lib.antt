@@ -1,0 +1,3 @@
+pub mod Installing
+pub mod Nothing
+pub mod Outcomes

@@ -1,0 +1,5 @@
+pub mod Texts
+pub mod Words
+pub mod Outcome
+pub mod Endings
+pub mod Found

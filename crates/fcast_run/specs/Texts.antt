@@ -1,0 +1,38 @@
+-- The texts of a run. Each line ends with a line feed, and numbers are decimal.
+use Rattle.std.specs.Prelude.{ℕ, List, [], ◌∷◌, ◌++◌, length, Option, Some, None, codes}
+use Rattle.std.specs.List.{flat_map}
+use Rattle.std.specs.Fmt.{decimal}
+use Rattle.carousel_cid.specs.Instances.{Shown}
+use Rattle.carousel_cid.specs.declared.file_of.FileOf.{FileOf}
+
+abbrev pub line : List ℕ → List ℕ
+line text = text ++ 10 ∷ []
+
+-- a label and a number
+abbrev pub number_line : List ℕ → ℕ → List ℕ
+number_line label number = label ++ decimal number ++ 10 ∷ []
+
+abbrev pub usage_line : List ℕ
+usage_line = line (codes "usage: replay, recv, send, dump, drill or listen")
+
+abbrev pub not_yet_line : List ℕ
+not_yet_line = line (codes "not yet")
+
+abbrev pub nothing_line : List ℕ
+nothing_line = line (codes "nothing installed")
+
+abbrev pub kind_line : Option (List ℕ) → List ℕ
+kind_line None = []
+kind_line (Some kind) = line (codes "type " ++ kind)
+
+-- a file: its object and its length, its location, and its type where it has one
+abbrev pub file_lines : FileOf → List ℕ
+file_lines f =
+    codes "file " ++ decimal f.toi ++ number_line (codes " ") (length f.body)
+    ++ line (codes "location " ++ f.location) ++ kind_line f.kind
+
+-- an instance: its number, its descriptor's object, how many files it has, and each of them in order
+unfoldable pub manifest : Shown → List ℕ
+manifest i =
+    number_line (codes "instance ") i.number ++ number_line (codes "descriptor ") i.descriptor_toi
+    ++ number_line (codes "files ") (length i.files) ++ flat_map file_lines i.files
