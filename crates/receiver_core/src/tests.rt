@@ -49,26 +49,23 @@ fn symbol_of(
     Ok(datagram)
 }
 
-/// The datagram is taken as a packet with this symbol of object 1, and so kept.
-fn check_kept(
-    rt: &impl Abort,
-    receiver: &mut Receiver,
-    datagram: &[u8],
-    esi: u8,
-    kept: Kept,
-) -> Result<(), AllocError> {
-    let taken = receiver.take(datagram)?;
-    assert_eq!(rt;
-        taken,
-        Taken::Packet {
-            toi: 1,
-            sbn: 0,
-            esi,
-            kept
-        },
-        "of symbol {esi}"
-    );
-    Ok(())
+/// The datagram with one of its bytes changed.
+fn with(datagram: &[u8; 60], place: usize, byte: u8) -> [u8; 60] {
+    let mut changed = *datagram;
+    if place < changed.len() {
+        changed[place] = byte;
+    }
+    changed
+}
+
+/// A packet with the one symbol of its object.
+fn packet(toi: u128, kept: Kept) -> Taken {
+    Taken::Packet {
+        toi,
+        sbn: 0,
+        esi: 0,
+        kept,
+    }
 }
 
 /// The number and the descriptor's object of the installed instance.
@@ -76,101 +73,178 @@ fn installed(receiver: &Receiver) -> Option<(u32, u128)> {
     receiver.installed().map(|i| (i.number, i.descriptor_toi))
 }
 
-#[test]
-fn one_descriptor(rt: HostRuntime) -> Result<(), Fail> {
-    let mut changed = EMPTY_INSTANCE_DATAGRAM;
-    changed[59] = 1;
-    let mut short = EMPTY_INSTANCE_DATAGRAM;
-    short[2] = 3;
-
-    let mut receiver = Receiver::start(rt.alloc(), 1, 4096)?;
-    assert_eq!(rt; receiver.take(&short)?, Taken::Refused(Refusal::NotYet));
-    assert_eq!(rt; receiver.settle()?, None);
-    check_kept(&rt, &mut receiver, &EMPTY_INSTANCE_DATAGRAM, 0, WHOLE)?;
-    assert_eq!(rt; installed(&receiver), None);
-    assert_eq!(rt; receiver.settle()?, Some(1));
-    assert_eq!(rt; installed(&receiver), Some((1, 1)));
-    check_kept(&rt, &mut receiver, &changed, 0, Kept::NotYet)?;
-    check_kept(
-        &rt,
-        &mut receiver,
-        &EMPTY_INSTANCE_DATAGRAM,
-        0,
-        Kept::Repeat,
-    )?;
-    assert_eq!(rt; receiver.settle()?, None);
-    assert_eq!(rt; installed(&receiver), Some((1, 1)));
-    assert!(rt; !receiver.not_yet());
-
-    let mut other = Receiver::start(rt.alloc(), 2, 1 << 30)?;
-    assert_eq!(rt;
-        other.take(&EMPTY_INSTANCE_DATAGRAM)?,
-        Taken::Elsewhere { tsi: 1 }
-    );
-    Ok(())
+/// A datagram, what is taken of it, the answer of the settling then, and what is installed then: its
+/// number, and its descriptor's object.
+#[derive(Drop)]
+struct Step {
+    datagram: [u8; 60],
+    taken: Taken,
+    number: Option<u32>,
+    installed: Option<(u32, u128)>,
 }
 
-/// Two descriptors, each its object and its number; the answer to the second, and what is installed then.
-#[test]
-fn two_descriptors(rt: HostRuntime) -> Result<(), Fail> {
-    let cases = [
-        ((1, 1), (2, 2), Some(2), (2, 2)),
-        ((2, 2), (1, 1), None, (2, 2)),
-        ((9, 5), (4, 5), Some(5), (5, 4)),
-        ((4, 5), (9, 5), None, (5, 4)),
-    ];
-    for (first, second, answer, best) in cases {
-        let mut receiver = Receiver::start(rt.alloc(), 1, 4096)?;
-        receiver.take(&empty_instance(first.0, first.1))?;
+fn check_steps(rt: &impl Abort, receiver: &mut Receiver, steps: &[Step]) -> Result<(), AllocError> {
+    for step in steps {
+        let taken = receiver.take(&step.datagram)?;
+        assert_eq!(rt; taken, step.taken, "of {:?}", step.datagram);
+        let number = receiver.settle()?;
+        assert_eq!(rt; number, step.number, "of {:?}", step.datagram);
         assert_eq!(rt;
-            receiver.settle()?,
-            Some(u32::from(first.1)),
-            "of {first:?}"
+            installed(receiver),
+            step.installed,
+            "of {:?}",
+            step.datagram
         );
-        receiver.take(&empty_instance(second.0, second.1))?;
-        assert_eq!(rt; receiver.settle()?, answer, "of {second:?}");
-        assert_eq!(rt; installed(&receiver), Some(best), "of {second:?}");
     }
     Ok(())
 }
 
 #[test]
-fn no_descriptor(rt: HostRuntime) -> Result<(), Fail> {
-    let mut changed = EMPTY_INSTANCE_DATAGRAM;
-    changed[59] = 1;
+fn one_descriptor(rt: HostRuntime) -> Result<(), Fail> {
+    let datagram = empty_instance(1, 1);
+    let steps = [
+        Step {
+            datagram: with(&datagram, 2, 3),
+            taken: Taken::Refused(Refusal::NotYet),
+            number: None,
+            installed: None,
+        },
+        Step {
+            datagram,
+            taken: packet(1, WHOLE),
+            number: Some(1),
+            installed: Some((1, 1)),
+        },
+        Step {
+            datagram: with(&datagram, 59, 1),
+            taken: packet(1, Kept::NotYet),
+            number: None,
+            installed: Some((1, 1)),
+        },
+        Step {
+            datagram,
+            taken: packet(1, Kept::Repeat),
+            number: None,
+            installed: Some((1, 1)),
+        },
+    ];
     let mut receiver = Receiver::start(rt.alloc(), 1, 4096)?;
-    check_kept(&rt, &mut receiver, &changed, 0, WHOLE)?;
+    check_steps(&rt, &mut receiver, &steps)?;
     assert!(rt; !receiver.not_yet());
-    assert_eq!(rt; receiver.settle()?, None);
-    assert!(rt; receiver.not_yet());
-    assert_eq!(rt; installed(&receiver), None);
     Ok(())
 }
 
-/// 256 for the object, 64 for its block, and 1000 for each symbol: the fourth would pass 4096.
+#[test]
+fn another_session(rt: HostRuntime) -> Result<(), Fail> {
+    let steps = [Step {
+        datagram: empty_instance(1, 1),
+        taken: Taken::Elsewhere { tsi: 1 },
+        number: None,
+        installed: None,
+    }];
+    let mut receiver = Receiver::start(rt.alloc(), 2, 1 << 30)?;
+    check_steps(&rt, &mut receiver, &steps)?;
+    Ok(())
+}
+
+#[test]
+fn no_descriptor(rt: HostRuntime) -> Result<(), Fail> {
+    let steps = [Step {
+        datagram: with(&empty_instance(1, 1), 59, 1),
+        taken: packet(1, WHOLE),
+        number: None,
+        installed: None,
+    }];
+    let mut receiver = Receiver::start(rt.alloc(), 1, 4096)?;
+    assert!(rt; !receiver.not_yet());
+    check_steps(&rt, &mut receiver, &steps)?;
+    assert!(rt; receiver.not_yet());
+    Ok(())
+}
+
+/// A descriptor with an empty list, which is new: the answer, and the number and object installed then.
+fn descriptor(toi: u8, number: u8, answer: Option<u32>, best: (u32, u128)) -> Step {
+    Step {
+        datagram: empty_instance(toi, number),
+        taken: packet(u128::from(toi), WHOLE),
+        number: answer,
+        installed: Some(best),
+    }
+}
+
+#[test]
+fn two_descriptors(rt: HostRuntime) -> Result<(), Fail> {
+    let cases = [
+        [
+            descriptor(1, 1, Some(1), (1, 1)),
+            descriptor(2, 2, Some(2), (2, 2)),
+        ],
+        [
+            descriptor(2, 2, Some(2), (2, 2)),
+            descriptor(1, 1, None, (2, 2)),
+        ],
+        [
+            descriptor(9, 5, Some(5), (5, 9)),
+            descriptor(4, 5, Some(5), (5, 4)),
+        ],
+        [
+            descriptor(4, 5, Some(5), (5, 4)),
+            descriptor(9, 5, None, (5, 4)),
+        ],
+    ];
+    for steps in &cases {
+        let mut receiver = Receiver::start(rt.alloc(), 1, 4096)?;
+        check_steps(&rt, &mut receiver, steps)?;
+    }
+    Ok(())
+}
+
+/// So many bytes.
+fn sevens(alloc: Global, count: usize) -> Result<Vec<u8>, AllocError> {
+    vec![in alloc; 7u8; count]
+}
+
+/// What is taken of the symbols of one block: for each its ESI, and what is kept.
+fn check_block(
+    rt: &impl Abort,
+    alloc: Global,
+    length: u16,
+    most: u8,
+    size: usize,
+    symbols: &[(u8, Kept)],
+) -> Result<(), AllocError> {
+    let symbol = sevens(alloc, size)?;
+    let mut receiver = Receiver::start(alloc, 1, 4096)?;
+    for (esi, kept) in symbols {
+        let datagram = symbol_of(alloc, length, most, *esi, symbol.as_slice())?;
+        let taken = receiver.take(datagram.as_slice())?;
+        let wanted = Taken::Packet {
+            toi: 1,
+            sbn: 0,
+            esi: *esi,
+            kept: *kept,
+        };
+        assert_eq!(rt; taken, wanted, "of symbol {esi}");
+    }
+    Ok(())
+}
+
+/// In the second block 256 are for the object, 64 for its block, and 1000 for each symbol: the fourth
+/// would pass 4096.
 #[test]
 fn symbols_of_a_block(rt: HostRuntime) -> Result<(), Fail> {
     let part = Kept::New {
         block_done: false,
         object_done: false,
     };
-    let mut receiver = Receiver::start(rt.alloc(), 1, 4096)?;
-    let symbol = vec![in rt.alloc(); 7u8; 1000]?;
-    for (esi, kept) in [
+    check_block(&rt, rt.alloc(), 8, 2, 4, &[(0, part), (1, WHOLE)])?;
+    let symbols = [
         (0, part),
         (1, part),
         (2, part),
         (3, Kept::NotYet),
         (2, Kept::Repeat),
-    ] {
-        let datagram = symbol_of(rt.alloc(), 8000, 8, esi, symbol.as_slice())?;
-        check_kept(&rt, &mut receiver, datagram.as_slice(), esi, kept)?;
-    }
-
-    let mut receiver = Receiver::start(rt.alloc(), 1, 4096)?;
-    for (esi, kept) in [(0, part), (1, WHOLE)] {
-        let datagram = symbol_of(rt.alloc(), 8, 2, esi, b"four")?;
-        check_kept(&rt, &mut receiver, datagram.as_slice(), esi, kept)?;
-    }
+    ];
+    check_block(&rt, rt.alloc(), 8000, 8, 1000, &symbols)?;
     Ok(())
 }

@@ -1,0 +1,101 @@
+//! Runs over forms in memory.
+ghost use Rattle.std.specs.Prelude.{◌≤◌, All, IfOk};
+
+use edge_io::{LogReader, MemBytes, MemShelf, MemText, SureEmit, SureFiles};
+use fcast_run::{Edge, run};
+use meta_text::Label;
+use std::alloc::{AllocError, Global};
+use watch_list::{Counter, Watch};
+
+/// The outside in memory, around a packet log.
+pub type MemEdge = Edge<LogReader<MemBytes>, SureEmit, SureFiles, MemShelf, MemText>;
+
+/// The calls of each device that are to fail, counted from 1.
+#[derive(Clone, Copy)]
+pub struct Failing<'a> {
+    pub bytes: &'a [u32],
+    pub shelf: &'a [u32],
+    pub text: &'a [u32],
+}
+
+/// No call fails.
+pub const NONE: Failing<'static> = Failing {
+    bytes: &[],
+    shelf: &[],
+    text: &[],
+};
+
+/// How a run ended.
+#[derive(Drop)]
+pub struct Ran {
+    pub status: u8,
+    pub edge: MemEdge,
+    /// How many events the watcher that was handed in has heard.
+    pub heard: Option<u64>,
+}
+
+/// Runs these words over this log, which is read as a whole, or byte by byte.
+pub fn play(
+    alloc: Global,
+    words: &[&str],
+    log: &[u8],
+    one_by_one: bool,
+    failing: Failing<'_>,
+) -> Result<Ran, AllocError> {
+    let mut labels = Vec::new(alloc);
+    for word in words {
+        labels.push(Label::new(String::from_str(alloc, word)?))?;
+    }
+    let mut edge = edge_of(alloc, log, one_by_one, failing)?;
+    let mut watchers: Vec<Box<dyn Watch>> = Vec::new(alloc);
+    watchers.push(Box::new(alloc, Counter::new())?)?;
+    let status = run(alloc, labels.as_slice(), &mut edge, &mut watchers);
+    let heard = match watchers.as_slice() {
+        [watcher] => Some(watcher.tally()),
+        _ => None,
+    };
+    Ok(Ran {
+        status,
+        edge,
+        heard,
+    })
+}
+
+fn edge_of(
+    alloc: Global,
+    log: &[u8],
+    one_by_one: bool,
+    failing: Failing<'_>,
+) -> Result<MemEdge, AllocError> {
+    let bytes = Vec::from_slice(alloc, log)?;
+    let sizes = sizes_of(alloc, one_by_one, log.len())?;
+    let source = MemBytes::new(bytes, sizes, Vec::from_slice(alloc, failing.bytes)?);
+    Ok(Edge {
+        datagrams: LogReader::new(source),
+        emit: SureEmit::new(alloc),
+        files: SureFiles::new(Vec::new(alloc)),
+        shelf: MemShelf::new(alloc, None, Vec::from_slice(alloc, failing.shelf)?),
+        text: MemText::new(Vec::new(alloc), Vec::from_slice(alloc, failing.text)?),
+    })
+}
+
+/// The sizes of reads of one byte each, or none for reads without a limit.
+fn sizes_of(alloc: Global, one_by_one: bool, count: usize) -> Result<Vec<usize>, AllocError>
+    ensures { IfOk result (λ v. All (λ n. 1 ≤ n) v.items) }
+{
+    let mut sizes = Vec::new(alloc);
+    if one_by_one {
+        push_ones(&mut sizes, count)?;
+    }
+    Ok(sizes)
+}
+
+fn push_ones(sizes: &mut Vec<usize>, count: usize) -> Result<(), AllocError>
+    requires { All (λ n. 1 ≤ n) sizes.old.items }
+    ensures { All (λ n. 1 ≤ n) sizes.new.items }
+{
+    for _read in 0..count {
+        sizes.push(1)?;
+    }
+    Ok(())
+}
