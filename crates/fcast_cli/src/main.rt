@@ -1,14 +1,13 @@
 //! The program `fcast`: it makes the real forms of the outside and calls `run`.
 #![tactic(auto)]
 
+use edge_io::{FolderShelf, LogReader, ReaderBytes, SureEmit, SureFiles, WriterText};
+use fcast_run::{Edge, run};
+use meta_text::Label;
 use std::io::ErrorKind;
 use std::process::ExitCode;
 use std::rt::Env;
 use std::{env, io};
-
-use edge_io::{FolderShelf, LogReader, ReaderBytes, SureEmit, SureFiles, WriterText};
-use fcast_run::{Edge, run};
-use meta_text::Label;
 
 /// The status for want of memory.
 const NO_MEMORY: u8 = 9;
