@@ -1,4 +1,4 @@
-use Rattle.std.proofs.Common.{◌+◌, ◌*◌, ◌∙◌, sym, arith, drop, true}
+use Rattle.std.proofs.Common.{◌+◌, ◌*◌, ◌∙◌, sym, arith, drop}
 use Rattle.std.specs.Char.{is_ascii_digit}
 use Rattle.std.specs.List.{take_while}
 use Rattle.carousel_cid.proofs.Digits.{more_digits_at, digits_grow}
