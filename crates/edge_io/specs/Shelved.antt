@@ -24,7 +24,3 @@ with_file s toi body = record { done = s.done; number = s.number; files = s.file
 -- the part, with its manifest, is the finished instance
 abbrev pub finished : Shelved → List ℕ → Shelved
 finished s manifest = record { done = Some (record { number = s.number; files = s.files; manifest = manifest }); number = s.number; files = s.files }
-
--- before the first `begin` the part has the number 0 and no file
-abbrev pub before_begin : Option Finished → Shelved
-before_begin done = record { done = done; number = 0; files = [] }
