@@ -1,9 +1,14 @@
 -- What text and shelf hold where a run stopped in the middle.
-use Rattle.std.specs.Prelude.{◌≡◌, ◌≢◌, ℕ, ◌<◌, List, ◌++◌, length, take}
+use Rattle.std.specs.Prelude.{◌≡◌, ◌≢◌, ◌==◌, ℕ, ◌<◌, Bool, List, [], ◌∷◌, ◌++◌, length, take}
+use Rattle.std.specs.List.{list_any}
 use Rattle.edge_io.specs.Shelved.{Shelved}
 use Rattle.fcast_run.specs.declared.fault.Fault.{Fault}
 use Rattle.fcast_run.specs.declared.fault.Fault.TheVariants.{Datagrams, Text, Shelf, Memory}
 use Rattle.edge_io.specs.ShelfCalls.{Call, after}
+
+-- the statuses of a run
+abbrev pub is_status : ℕ → Bool
+is_status s = list_any (λ t. t == s) (0 ∷ 1 ∷ 2 ∷ 4 ∷ 5 ∷ 6 ∷ 9 ∷ 14 ∷ [])
 
 -- the status of each fault
 abbrev pub status_of : Fault → ℕ

@@ -5,7 +5,7 @@ ghost use Rattle.edge_io.specs.ShelfCalls.{after, Begin, Finish};
 ghost use Rattle.fcast_run.specs.Words.{is_replay};
 ghost use Rattle.fcast_run.specs.Texts.{usage_line};
 ghost use Rattle.fcast_run.specs.Outcome.{outcome, replayed, read_to_end, put_of};
-ghost use Rattle.fcast_run.specs.Endings.{IsDone, WritesPart, AcceptsPart, AcceptsFewer};
+ghost use Rattle.fcast_run.specs.Endings.{is_status, IsDone, WritesPart, AcceptsPart, AcceptsFewer};
 
 use crate::edge::Edge;
 use crate::fault::Fault;
@@ -51,6 +51,7 @@ pub fn run<D: Datagrams, E: Emit, F: Files, S: Shelf, T: Text>(
     // Which status it is: the outcome's, unless a device failed or there was no memory.
     ensures status { D.told edge.old.datagrams → IsDone result → result ≡ (outcome words.now (D.left edge.old.datagrams) (D.torn edge.old.datagrams)).status }
     // The causes of each status, whether anything is told or not.
+    ensures table { is_status result ≡ true }
     ensures usage { is_replay words.now ≡ false → IsDone result → result ≡ 1 }
     ensures command { result ≡ 1 → is_replay words.now ≡ false }
     ensures datagrams_failed { result ≡ 4 → Rose (D.faults edge.old.datagrams) (D.faults edge.new.datagrams) }
@@ -108,6 +109,7 @@ fn replay<D: Datagrams, S: Shelf, T: Text>(
     text: &mut T,
 ) -> Result<u8, Fault>
     ensures done { IfOk result IsDone }
+    ensures table { IfOk result (λ s. is_status s ≡ true) }
     ensures command { IfOk result (λ s. s ≢ 1) }
     ensures status { IfOk result (λ s. D.told datagrams.old → s ≡ (replayed (D.left datagrams.old) (D.torn datagrams.old)).status) }
     ensures report { OnOk result (D.told datagrams.old → T.told text.old → T.written text.new ≡ T.written text.old ++ (replayed (D.left datagrams.old) (D.torn datagrams.old)).report) }
@@ -138,6 +140,7 @@ fn report<S: Shelf, T: Text>(
     text: &mut T,
 ) -> Result<u8, Fault>
     ensures done { IfOk result IsDone }
+    ensures table { IfOk result (λ s. is_status s ≡ true) }
     ensures command { IfOk result (λ s. s ≢ 1) }
     ensures status { IfOk result (λ s. s ≡ (read_to_end receiver.now.installed).status) }
     ensures report { OnOk result (T.told text.old → T.written text.new ≡ T.written text.old ++ (read_to_end receiver.now.installed).report) }
