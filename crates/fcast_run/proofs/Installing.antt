@@ -27,10 +27,6 @@ fewer_later c cs ds old new part = record {
   holds = part.holds ∙ ap (λ es. after es (after_call c old)) (sym (take-append-le part.accepted cs ds (omega (arith, part.fewer)))) ∙ ap (λ n. after (take n (c ∷ (cs ++ ds))) old) (sym (add-one part.accepted));
 }
 
--- nothing was accepted
-pub fewer_none : (c : Call) (cs : List Call) (old new : Shelved) → new ≡ old → AcceptsFewer (c ∷ cs) old new
-fewer_none c cs old new same = record { accepted = 0; fewer = omega arith; holds = same }
-
 -- all but the last were accepted
 pub fewer_last : (c : Call) (cs : List Call) (d : Call) (old new : Shelved) → new ≡ after cs (after_call c old) → AcceptsFewer (c ∷ (cs ++ d ∷ [])) old new
 fewer_last c cs d old new is = record {

@@ -1,5 +1,5 @@
 -- The outcome of what is left, datagram by datagram.
-use Rattle.std.proofs.Common.{◌≡◌, ℕ, suc, ◌+◌, ◌-◌, ◌<◌, ◌≤◌, Bool, true, false, not, ◌&&◌, ◌||◌, List, [], ◌∷◌, ◌∙◌, refl, sym, ap, arith, length, take, Option, Some, None}
+use Rattle.std.proofs.Common.{◌≡◌, ℕ, suc, ◌+◌, ◌-◌, ◌≤◌, Bool, true, false, not, ◌&&◌, ◌||◌, List, [], ◌∷◌, ◌∙◌, refl, sym, ap, arith, length, Option, Some, None}
 use Rattle.std.specs.Prelude.{nat_lt, is_some, option_map, ◌==◌}
 use Rattle.std.specs.Option.{option_and_then}
 use Rattle.std.proofs.lemmas.Bool.Decides.{nat_tests}
@@ -181,23 +181,6 @@ refused_stops old d taken tsi budget bytes answer refused most left torn =
     (sym (ap is_built_taken answer ∙ ap (λ t. is_built_taken (taken_of t old.budget old.held d)) tsi ∙ ap (λ b. is_built_taken (taken_of default_tsi b old.held d)) budget) ∙ refused) most left torn
 
 -- ---- the loop over the datagrams
-
--- one turn: the outcome of what is left stays that of all
-pub turn_keeps : (i n : ℕ) (buffer d : List ℕ) (left left' : List (List ℕ)) (torn torn' : Option ℕ) (held held' : Held) (o : Outcome) → i < 1000 → d ≡ take n buffer → left ≡ take n buffer ∷ left' → torn' ≡ torn
-    → ((most : ℕ) (rest : List (List ℕ)) (tear : Option ℕ) → outcome_from (most + 1) held (d ∷ rest) tear ≡ outcome_from most held' rest tear) → outcome_from (1000 - i) held left torn ≡ o
-    → outcome_from (1000 - (i + 1)) held' left' torn' ≡ o
-turn_keeps i n buffer d left left' torn torn' held held' o less is split same on now =
-    sym (on (1000 - (i + 1)) left' torn')
-    ∙ ap (λ m. outcome_from m held (d ∷ left') torn') (let e : 1000 - (i + 1) + 1 ≡ 1000 - i = omega arith in e)
-    ∙ ap (λ ds. outcome_from (1000 - i) held ds torn') (ap (λ x. x ∷ left') is ∙ sym split)
-    ∙ ap (outcome_from (1000 - i) held left) same
-    ∙ now
-
--- a turn that stops
-pub turn_stops : (m n : ℕ) (buffer d : List ℕ) (left left' : List (List ℕ)) (torn : Option ℕ) (held : Held) (o : Outcome) → d ≡ take n buffer → left ≡ take n buffer ∷ left'
-    → ((most : ℕ) (rest : List (List ℕ)) (tear : Option ℕ) → outcome_from most held (d ∷ rest) tear ≡ not_built) → outcome_from m held left torn ≡ o → o ≡ not_built
-turn_stops m n buffer d left left' torn held o is split stops now =
-    sym now ∙ ap (λ ds. outcome_from m held ds torn) (split ∙ ap (λ x. x ∷ left') (sym is)) ∙ stops m left' torn
 
 -- the end
 pub turn_ends : (m : ℕ) (left : List (List ℕ)) (torn : Option ℕ) (held : Held) (installed : Option Shown) (o : Outcome) → left ≡ [] → torn ≡ None → installed ≡ best held → outcome_from m held left torn ≡ o → o ≡ read_to_end installed

@@ -83,10 +83,3 @@ unfolding complete
 complete_named objects t i e =
     let read = then_some (λ bytes. instance_of_kind objects t (kind_of_object bytes)) (objects t) i e in
     named_by_kind objects t (kind_of_object read.0) i read.2
-
--- only a whole object announces an instance
-pub complete_whole : (objects : Objects) (t : ℕ) (i : Shown) → complete objects t ≡ Some i → (bytes : List ℕ) × (objects t ≡ Some bytes)
-unfolding complete
-complete_whole objects t i e =
-    let read = then_some (λ bytes. instance_of_kind objects t (kind_of_object bytes)) (objects t) i e in
-    (read.0, read.1)

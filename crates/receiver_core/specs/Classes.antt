@@ -4,15 +4,13 @@ use Rattle.oti_blocks.specs.Partition.{size_at}
 use Rattle.alc_packet.specs.Packet.{SymbolPacket}
 use Rattle.alc_packet.specs.FirstForm.{reading}
 use Rattle.alc_packet.specs.declared.datagram.Refusal.TheVariants as refusals
-use Rattle.carousel_cid.specs.Instances.{Shown}
 use Rattle.receiver_core.specs.declared.taken.Kept.{Kept}
 use Rattle.receiver_core.specs.declared.taken.Kept.TheVariants as kept
 use Rattle.receiver_core.specs.declared.taken.Taken.{Taken}
 use Rattle.receiver_core.specs.declared.taken.Taken.TheVariants as taken
 use Rattle.receiver_core.specs.Held.{Held, joined, symbols_held}
-use Rattle.receiver_core.specs.Count.{Verdict, New, Repeat, Spare, OtiDiffers, SymbolDiffers, OverBudget, verdict, step, held_after}
+use Rattle.receiver_core.specs.Count.{Verdict, New, Repeat, Spare, OtiDiffers, SymbolDiffers, OverBudget, verdict, step}
 use Rattle.receiver_core.specs.Whole.{whole}
-use Rattle.receiver_core.specs.Best.{best}
 
 -- the answer to a packet: a new one says what it completes, and what isn't built is told as such
 abbrev pub kept_of : Held → SymbolPacket → Verdict → Kept
@@ -56,7 +54,3 @@ is_new (taken.Refused r) = false
 is_new (taken.Elsewhere t) = false
 is_new (taken.Control c) = false
 is_new (taken.Packet t b j k) = is_new_kept k
-
--- what a receiver has installed after these packets of its session
-abbrev pub installed_after : ℕ → List SymbolPacket → Option Shown
-installed_after budget ps = best (held_after budget ps)

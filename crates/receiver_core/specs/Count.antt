@@ -1,12 +1,12 @@
 -- The byte count of a held pair, which the budget bounds, and the verdict on one more packet.
 use Rattle.std.specs.Prelude.{ℕ, ◌+◌, ◌*◌, ◌==◌, nat_lt, nat_le, if◌then◌else◌, List, Option, Some, None, is_some}
-use Rattle.std.specs.List.{fold, sum_by}
+use Rattle.std.specs.List.{sum_by}
 use Rattle.std.specs.Str.{bytes_eq}
 use Rattle.std.specs.FinMap.{get, entries}
 use Rattle.oti_blocks.specs.Partition.{ObjectInformation, blocks, size_at}
 use Rattle.alc_packet.specs.Packet.{SymbolPacket, full}
 use Rattle.receiver_core.specs.Below.{sum_below}
-use Rattle.receiver_core.specs.Held.{Held, nothing_held, symbols_held, place_of, row_at, same_information, first_difference, joined}
+use Rattle.receiver_core.specs.Held.{Held, symbols_held, place_of, row_at, same_information, first_difference, joined}
 
 -- 64 for a block with a place, and the symbol's length for each place
 abbrev pub block_count : ObjectInformation → ℕ → ℕ
@@ -62,7 +62,3 @@ after_verdict held p _ = held
 
 abbrev pub step : ℕ → Held → SymbolPacket → Held
 step budget held p = after_verdict held p (verdict budget held p)
-
--- what is held after these packets
-abbrev pub held_after : ℕ → List SymbolPacket → Held
-held_after budget ps = fold (step budget) nothing_held ps
