@@ -1,8 +1,12 @@
 -- Tests, counts and sums over the numbers below a bound.
-use Rattle.std.proofs.Common.{◌≡◌, ◌≢◌, ℕ, zero, suc, ◌+◌, ◌<◌, ◌≤◌, Bool, true, false, ◌&&◌, List, [], ◌∷◌, length, refl, sym, ap, subst, ◌∙◌, arith, add-one, inl, inr}
+use Rattle.std.proofs.Common.{◌≡◌, ◌≢◌, ℕ, zero, suc, ◌+◌, ◌<◌, ◌≤◌, Bool, true, false, ◌&&◌, List, [], ◌∷◌, ◌++◌, length, get_or, All, AllPairs, refl, sym, ap, subst, ◌∙◌, arith, add-one, inl, inr}
 use Rattle.std.specs.Prelude.{if◌then◌else◌}
 use Rattle.std.proofs.lemmas.Bool.{cases_lt, and_parts}
-use Rattle.std.proofs.lemmas.List.{length-append}
+use Rattle.std.proofs.Math.ListN.{get_or-append}
+use Rattle.std.proofs.Math.Seq.{get_or-append_seam}
+use Rattle.std.proofs.lemmas.List.{length-append, append-nil}
+use Rattle.std.proofs.lemmas.List.Elements.{All-push}
+use Rattle.std.proofs.lemmas.List.Quantifiers.{all_pairs_push}
 use Rattle.wire_bytes.specs.Below.{count_below, sum_below, all_below, join_below, which_below}
 
 -- ---- tests
@@ -126,3 +130,63 @@ pub length_which : (n : ℕ) (p : ℕ → Bool) → length (which_below n p) ≡
 unfolding which_below
 length_which zero p = refl
 length_which (suc n) p = omega (arith, length-append (which_below n p) (if p n then n ∷ [] else []), length_which n p, one_or_none (p n) n)
+
+-- ---- which numbers pass
+
+-- the number is below n and passes
+pub record IsPassing (n : ℕ) (p : ℕ → Bool) (x : ℕ) : Type 0 where
+  pub below : x < n
+  pub passes : p x ≡ true
+
+-- those that pass below n pass below n + 1
+pass_later : (n : ℕ) (p : ℕ → Bool) (xs : List ℕ) → All (IsPassing n p) xs → All (IsPassing (suc n) p) xs
+pass_later n p xs are k d lt = let h = are k d lt in record { below = omega (arith, h.below); passes = h.passes }
+
+-- each of them passes
+pub which_pass : (n : ℕ) (p : ℕ → Bool) → All (IsPassing n p) (which_below n p)
+unfolding which_below
+which_pass zero p = λ k d lt. absurd (omega arith)
+which_pass (suc n) p = elim (p n) as (λ b. p n ≡ b → All (IsPassing (suc n) p) (which_below n p ++ (if b then n ∷ [] else []))) [
+  | true ↦ λ e. All-push (IsPassing (suc n) p) (which_below n p) n (pass_later n p (which_below n p) (which_pass n p)) (record { below = omega arith; passes = e })
+  | false ↦ λ e. subst (All (IsPassing (suc n) p)) (sym (append-nil (which_below n p))) (pass_later n p (which_below n p) (which_pass n p))
+] refl
+
+-- no two of them are equal
+pub which_differ : (n : ℕ) (p : ℕ → Bool) → AllPairs (λ x y. x ≢ y) (which_below n p)
+unfolding which_below
+which_differ zero p = λ i j d less lt. absurd (omega arith)
+which_differ (suc n) p = elim (p n) as (λ b. AllPairs (λ x y. x ≢ y) (which_below n p ++ (if b then n ∷ [] else []))) [
+  | true ↦ all_pairs_push (λ x y. x ≢ y) (which_below n p) n (which_differ n p) (λ k d lt. let h = which_pass n p k d lt in λ same. absurd (omega (arith, h.below, same)))
+  | false ↦ subst (AllPairs (λ x y. x ≢ y)) (sym (append-nil (which_below n p))) (which_differ n p)
+]
+
+-- each number that passes stands among them
+pub record StandsIn (xs : List ℕ) (x : ℕ) : Type 0 where
+  pub at : ℕ
+  pub within : at < length xs
+  pub is : get_or xs at 0 ≡ x
+
+stands_later : (xs ys : List ℕ) (x : ℕ) → StandsIn xs x → StandsIn (xs ++ ys) x
+stands_later xs ys x s = record {
+  at = s.at;
+  within = omega (arith, s.within, length-append xs ys);
+  is = get_or-append xs ys 0 s.at s.within ∙ s.is;
+}
+
+stands_last : (xs : List ℕ) (x : ℕ) → StandsIn (xs ++ x ∷ []) x
+stands_last xs x = record {
+  at = length xs;
+  within = omega (arith, length-append xs (x ∷ []));
+  is = get_or-append_seam xs x [] 0;
+}
+
+pub which_has : (n : ℕ) (p : ℕ → Bool) (x : ℕ) → x < n → p x ≡ true → StandsIn (which_below n p) x
+unfolding which_below
+which_has zero p x less passes = absurd (omega arith)
+which_has (suc n) p x less passes = elim (cases_lt x n) [
+  | inl below ↦ stands_later (which_below n p) (if p n then n ∷ [] else []) x (which_has n p x below passes)
+  | inr at ↦
+      let same : x ≡ n = omega arith in
+      let here : p n ≡ true = ap p (sym same) ∙ passes in
+      subst (λ b. StandsIn (which_below n p ++ (if b then n ∷ [] else [])) x) (sym here) (subst (StandsIn (which_below n p ++ n ∷ [])) (sym same) (stands_last (which_below n p) n))
+]
