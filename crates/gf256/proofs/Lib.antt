@@ -1,8 +1,12 @@
+pub mod Public
 pub mod Finite
 pub mod Tables
 pub mod Sums
 pub mod Products
 pub mod Powers
+pub mod Logarithms
+pub mod HalfTables
+pub mod LookUps
 pub mod RowSteps
 pub mod Horner
 pub mod Roots

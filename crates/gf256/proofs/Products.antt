@@ -1,12 +1,11 @@
 -- The product of elements: from what `Tables` tests, the laws of a field.
-use Rattle.std.proofs.Common.{◌≡◌, ◌≢◌, ◌⊎◌, ℕ, zero, suc, ◌<◌, ◌/◌, ◌%◌, Bool, true, false, cond, ◌||◌, eqb, ltb, refl, sym, ap, ap₂, ◌∙◌, inl, inr, ⊎_elim, arith, eqb-true, ltb-true, lt-ltb, le-ltb, ◌*◌, ◌≤◌}
+use Rattle.std.proofs.Common.{◌≡◌, ◌≢◌, ◌⊎◌, ℕ, zero, suc, ◌<◌, ◌/◌, ◌%◌, Bool, true, false, cond, ◌||◌, eqb, ltb, refl, sym, ap, ap₂, ◌∙◌, inl, inr, ⊎_elim, arith, eqb-true, ltb-true}
 use Rattle.std.specs.Prelude.{bit_xor}
-use Rattle.std.specs.Int.Bits.{xor_assoc}
-use Rattle.std.proofs.lemmas.Bool.{or_cases, cases_eq, cond-true, cond-false}
-use Rattle.gf256.specs.Field.{double, product, product_of}
+use Rattle.std.proofs.lemmas.Bool.{or_cases, cases_eq}
+use Rattle.gf256.specs.Field.{double, product, product_of, squares, inverse}
 use Rattle.gf256.proofs.Finite.{passes_at, passes_at_pair}
 use Rattle.gf256.proofs.Sums.{sum_lt, sum_swap, cond_lt, cond_sum}
-use Rattle.gf256.proofs.Tables.{double_lt_tested, double_sum_tested, product_comm_tested, product_one_tested, product_zero_tested, squares, inverse, inverse_tested}
+use Rattle.gf256.proofs.Tables.{double_lt_tested, double_sum_tested, product_comm_tested, product_one_tested, product_zero_tested, inverse_tested}
 
 -- the double of an element is an element
 pub double_lt : (a : ℕ) → a < 256 → double a < 256
@@ -114,16 +113,6 @@ pub product_assoc : (a b c : ℕ) → a < 256 → b < 256 → product (product a
 unfolding product
 product_assoc a b c la lb = product_of_assoc 8 a b c la lb
 
--- the double of an element whose double has eight bits
-pub double_low : (a : ℕ) → 2 * a < 256 → double a ≡ 2 * a
-unfolding double
-double_low a low = cond-true (ltb (2 * a) 256) _ _ (lt-ltb _ _ low)
-
--- the double of another
-pub double_high : (a : ℕ) → 256 ≤ 2 * a → double a ≡ bit_xor (2 * a) 285
-unfolding double
-double_high a high = cond-false (ltb (2 * a) 256) _ _ (le-ltb _ _ high)
-
 -- an element that is not zero has an inverse
 pub product_inverse : (a : ℕ) → a < 256 → a ≢ 0 → product a (inverse a) ≡ 1
 product_inverse a la some =
@@ -164,11 +153,6 @@ no_divisors a b la lb null =
 -- a product of elements that are not zero is not zero
 pub product_some : (a b : ℕ) → a < 256 → b < 256 → a ≢ 0 → b ≢ 0 → product a b ≢ 0
 product_some a b la lb sa sb null = ⊎_elim sa sb (no_divisors a b la lb null)
-
--- one more bit of a factor: the rest of the product from the next bit on
-pub product_of_step : (s n m a b : ℕ) → m ≡ suc n → bit_xor (bit_xor s (cond (eqb (b % 2) 1) a 0)) (product_of n (double a) (b / 2)) ≡ bit_xor s (product_of m a b)
-unfolding product_of
-product_of_step s n m a b is = rw is (xor_assoc s _ _)
 
 -- a factor of 1 is not zero
 pub some_factor : (a b : ℕ) → b < 256 → product a b ≡ 1 → a ≢ 0

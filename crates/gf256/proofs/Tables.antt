@@ -1,23 +1,9 @@
 -- Facts over all elements, tested by computing. Each stands here once; the laws cite them.
-use Rattle.std.proofs.Common.{◌≡◌, ℕ, zero, suc, true, not, ◌||◌, eqb, ltb, refl}
+use Rattle.std.proofs.Common.{◌≡◌, true, not, ◌||◌, eqb, ltb, refl}
 use Rattle.std.specs.Prelude.{bit_xor}
-use Rattle.gf256.specs.Field.{double, product, product_of}
+use Rattle.gf256.specs.Field.{double, product, product_of, squared, squares, inverse}
 use Rattle.gf256.specs.Polynomial.{power}
 use Rattle.gf256.proofs.Finite.{each_below, each_pair_below}
-
--- the element times itself, n times over
-unfoldable pub squared : ℕ → ℕ → ℕ
-squared zero a = a
-squared (suc n) a = product (squared n a) (squared n a)
-
--- the product of the first n squares after the element itself
-unfoldable pub squares : ℕ → ℕ → ℕ
-squares zero a = 1
-squares (suc n) a = product (squares n a) (squared (suc n) a)
-
--- the element to the power 254, which is 2 + 4 + .. + 128
-unfoldable pub inverse : ℕ → ℕ
-inverse a = squares 7 a
 
 -- each double is an element
 pub double_lt_tested : each_below 256 (λ a. ltb (double a) 256) ≡ true

@@ -1,3 +1,4 @@
 pub mod Field
+pub mod Inner
 pub mod Polynomial
 pub mod Row

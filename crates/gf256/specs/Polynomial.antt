@@ -1,7 +1,8 @@
 -- The powers of alpha and the values of polynomials over the field (RFC 5510, sections 8.1 and 8.2). A polynomial
 -- is the list of its coefficients, that of x^0 first.
 use Rattle.std.specs.Prelude.{ℕ, zero, suc, ◌≡◌, ◌≢◌, List, [], ◌∷◌, bit_xor, All, AllPairs}
-use Rattle.gf256.specs.Field.{IsByte, double, product}
+pub use Rattle.wire_bytes.specs.Bytes.{AreBytes}
+use Rattle.gf256.specs.Field.{double, product}
 
 -- alpha^j, where alpha is 2
 unfoldable pub power : ℕ → ℕ
@@ -16,10 +17,6 @@ value_from p (c ∷ cs) x = bit_xor (product c p) (value_from (product p x) cs x
 -- the value at x: the sum of c_i times x^i, and 0 for no coefficients
 abbrev pub value : List ℕ → ℕ → ℕ
 value cs x = value_from 1 cs x
-
--- each number is an element
-abbrev pub AreBytes : List ℕ → Type 0
-AreBytes xs = All IsByte xs
 
 -- no two are equal
 abbrev pub AreDifferent : List ℕ → Type 0

@@ -3,7 +3,10 @@
 #![tactic(auto)]
 
 mod element;
+mod halves;
+mod lanes;
 pub mod laws;
+mod logarithm;
 mod polynomial;
 mod row;
 #[cfg(test)]

@@ -1,15 +1,14 @@
 -- Lagrange's interpolation: at points that are apart it gives a polynomial with any values there.
-use Rattle.std.proofs.Common.{◌≡◌, ◌≢◌, ℕ, zero, suc, ◌<◌, ◌≤◌, eqb, List, length, get_or, refl, sym, ap, ap₂, ◌∙◌, subst, ⊎_elim, arith, eq-eqb, ne_eqb}
+use Rattle.std.proofs.Common.{◌≡◌, ◌≢◌, ℕ, zero, suc, ◌<◌, ◌≤◌, eqb, List, length, get_or, map, refl, sym, ap, ap₂, ◌∙◌, subst, ⊎_elim, arith, eq-eqb, ne_eqb}
 use Rattle.std.specs.Prelude.{bit_xor}
 use Rattle.std.specs.Int.Bits.{xor_self, xor_zero_l, xor_zero_r}
+use Rattle.std.specs.List.{range_with_len}
+use Rattle.std.proofs.lemmas.List.FromFn.{length-map-range_with_len, get_or-map-range_with_len}
 use Rattle.std.proofs.lemmas.Bool.{cases_eq, cases_lt, cond-true, cond-false}
-use Rattle.gf256.specs.Field.{product}
-use Rattle.gf256.specs.Polynomial.{power, AreBytes}
-use Rattle.gf256.proofs.Tables.{inverse}
-use Rattle.gf256.proofs.Sums.{sum_lt, equal_from_sum}
-use Rattle.gf256.proofs.Products.{product_lt, product_comm, product_assoc, product_one, one_product, product_zero, zero_product, product_inverse, inverse_lt, product_some}
-use Rattle.gf256.proofs.Powers.{power_lt, power_injective}
-use Rattle.rs_code.specs.Interpolation.{factor, others}
+use Rattle.gf256.specs.Field.{product, inverse}
+use Rattle.gf256.specs.Polynomial.{power, value, AreBytes, AreDifferent, Agree}
+use Rattle.gf256.proofs.Public.{sum_lt, equal_from_sum, product_lt, product_comm, product_assoc, product_one, one_product, product_zero, zero_product, product_inverse, inverse_lt, product_some, power_lt, power_injective, equal_where_agree}
+use Rattle.rs_code.specs.Interpolation.{factor, others, weight, weighed, field_sum}
 use Rattle.rs_code.specs.Symbol.{IsSymbol}
 use Rattle.rs_code.proofs.Polynomials.{IsPolynomial, polynomial_same, polynomial_zero, polynomial_one, polynomial_sum, polynomial_times}
 
@@ -23,15 +22,15 @@ pub powers_are_points : (k : ℕ) → k ≤ 255 → ArePoints k power
 powers_are_points k lk = record { elements = power_lt; apart = λ i j li lj same. power_injective i j (omega arith) (omega arith) same }
 
 -- the factor of the place itself is 1
-factor_own : (p : ℕ → ℕ) (i x : ℕ) → factor p i i x ≡ 1
+pub factor_own : (p : ℕ → ℕ) (i x : ℕ) → factor p i i x ≡ 1
 factor_own p i x = cond-true (eqb i i) _ _ (eq-eqb i i refl)
 
 -- the factor of another place is the distance from its point
-factor_other : (p : ℕ → ℕ) (i m x : ℕ) → m ≢ i → factor p i m x ≡ bit_xor x (p m)
+pub factor_other : (p : ℕ → ℕ) (i m x : ℕ) → m ≢ i → factor p i m x ≡ bit_xor x (p m)
 factor_other p i m x apart = cond-false (eqb m i) _ _ (ne_eqb m i apart)
 
 -- a factor is an element
-factor_lt : (n : ℕ) (p : ℕ → ℕ) (i m x : ℕ) → ArePoints n p → x < 256 → factor p i m x < 256
+pub factor_lt : (n : ℕ) (p : ℕ → ℕ) (i m x : ℕ) → ArePoints n p → x < 256 → factor p i m x < 256
 factor_lt n p i m x are lx =
     ⊎_elim
     (λ is. let e : factor p i m x ≡ 1 = ap (λ a. factor p i a x) is ∙ factor_own p i x in subst (λ (t : ℕ). t < 256) (sym e) (omega arith))
@@ -100,17 +99,13 @@ polynomial_others n p (suc m) i are less =
     (λ x lx. sym (ap (product (others p m i x)) (ap (λ a. factor p i a x) is ∙ factor_own p i x) ∙ product_one (others p m i x) (others_lt p m i x lx))))
     (cases_lt i m)
 
--- the weight of place i at x: 1 at its own point, and 0 at those of the others
-unfoldable pub weight : (ℕ → ℕ) → ℕ → ℕ → ℕ → ℕ
-weight p k i x = product (others p k i x) (inverse (others p k i (p i)))
-
 -- the weight is an element
 pub weight_lt : (p : ℕ → ℕ) (k i x : ℕ) → x < 256 → weight p k i x < 256
 unfolding weight
 weight_lt p k i x lx = product_lt (others p k i x) _ (others_lt p k i x lx)
 
 -- the weight at the place's own point
-weight_own : (p : ℕ → ℕ) (k i : ℕ) → ArePoints k p → i < k → weight p k i (p i) ≡ 1
+pub weight_own : (p : ℕ → ℕ) (k i : ℕ) → ArePoints k p → i < k → weight p k i (p i) ≡ 1
 unfolding weight
 weight_own p k i are li = product_inverse (others p k i (p i)) (others_lt p k i (p i) (are.elements i)) (others_some k p k i are (omega arith) li)
 
@@ -121,23 +116,9 @@ weight_other p k i m are less apart =
     ap (λ t. product t (inverse (others p k i (p i)))) (others_null k p k i m are less apart)
     ∙ zero_product _ (inverse_lt (others p k i (p i)) (others_lt p k i (p i) (are.elements i)))
 
--- the weight is what times the product over the other places at the place's point gives that at x
-pub weight_unique : (p : ℕ → ℕ) (k i x w : ℕ) → ArePoints k p → x < 256 → w < 256 → i < k → product w (others p k i (p i)) ≡ others p k i x → w ≡ weight p k i x
-unfolding weight
-weight_unique p k i x w are lx lw li is =
-    let d : ℕ = others p k i (p i) in
-    let ld : others p k i (p i) < 256 = others_lt p k i (p i) (are.elements i) in
-    let one : product d (inverse d) ≡ 1 = product_inverse d ld (others_some k p k i are (omega arith) li) in
-    sym (product_one w lw) ∙ ap (product w) (sym one) ∙ sym (product_assoc w d (inverse d) lw ld) ∙ ap (λ t. product t (inverse d)) is
-
--- the sum of the first n values, each with its weight at x
-unfoldable pub weighed : (ℕ → ℕ) → ℕ → List ℕ → ℕ → ℕ → ℕ
-weighed p k s zero x = 0
-weighed p k s (suc n) x = bit_xor (weighed p k s n x) (product (weight p k n x) (get_or s n 0))
-
 -- the sum is an element
 pub weighed_lt : (p : ℕ → ℕ) (k : ℕ) (s : List ℕ) (n x : ℕ) → x < 256 → weighed p k s n x < 256
-unfolding weighed
+unfolding weighed field_sum
 weighed_lt p k s zero x lx = omega arith
 weighed_lt p k s (suc n) x lx = sum_lt _ _ (weighed_lt p k s n x lx) (product_lt (weight p k n x) _ (weight_lt p k n x lx))
 
@@ -147,7 +128,7 @@ byte_at s n bytes less = bytes n 0 less
 
 -- the sum is a polynomial of k coefficients
 pub polynomial_weighed : (p : ℕ → ℕ) (k : ℕ) (s : List ℕ) (n : ℕ) → ArePoints k p → length s ≡ k → AreBytes s → n ≤ k → IsPolynomial k (weighed p k s n)
-unfolding weighed weight
+unfolding weighed weight field_sum
 polynomial_weighed p k s zero are len bytes le = polynomial_zero k
 polynomial_weighed p k s (suc n) are len bytes le =
     let d : ℕ = inverse (others p k n (p n)) in
@@ -161,7 +142,7 @@ polynomial_weighed p k s (suc n) are len bytes le =
 
 -- the sum at the point of a place that it has not is zero
 weighed_before : (p : ℕ → ℕ) (k : ℕ) (s : List ℕ) (n m : ℕ) → ArePoints k p → length s ≡ k → AreBytes s → m < k → n ≤ m → weighed p k s n (p m) ≡ 0
-unfolding weighed
+unfolding weighed field_sum
 weighed_before p k s zero m are len bytes less le = refl
 weighed_before p k s (suc n) m are len bytes less le =
     let apart : m ≢ n = omega arith in
@@ -170,7 +151,7 @@ weighed_before p k s (suc n) m are len bytes less le =
 
 -- the sum at the point of a place that it has is the value there
 pub weighed_after : (p : ℕ → ℕ) (k : ℕ) (s : List ℕ) (n m : ℕ) → ArePoints k p → length s ≡ k → AreBytes s → n ≤ k → m < n → weighed p k s n (p m) ≡ get_or s m 0
-unfolding weighed
+unfolding weighed field_sum
 weighed_after p k s zero m are len bytes le less = absurd (omega arith)
 weighed_after p k s (suc n) m are len bytes le less =
     ⊎_elim
@@ -205,3 +186,36 @@ pub source_is_symbol : (s : List ℕ) (i : ℕ) → AreBytes s → length s ≤ 
 source_is_symbol s i bytes lk less =
     let f : IsSymbol s i (weighed power (length s) s (length s) (power i)) = interpolates (length s) s i refl bytes lk in
     record { coefs = f.coefs; count = f.count; bytes = f.bytes; source = f.source; symbol = sym (f.source i less) }
+
+-- two polynomials of k coefficients that agree at k points are one
+pub one_polynomial : (k : ℕ) (p : ℕ → ℕ) (cs ds : List ℕ) → ArePoints k p → AreBytes cs → AreBytes ds → length cs ≡ k → length ds ≡ k
+    → ((i : ℕ) → i < k → value cs (p i) ≡ value ds (p i)) → cs ≡ ds
+one_polynomial k p cs ds are bc bd lc ld agree =
+    let rs : List ℕ = map p (range_with_len 0 k) in
+    let len : length (map p (range_with_len 0 k)) ≡ k = length-map-range_with_len p 0 k in
+    let at : (i d : ℕ) → i < k → get_or (map p (range_with_len 0 k)) i d ≡ p i = λ i d less. get_or-map-range_with_len p 0 k i i d less (omega arith) in
+    let bytes : AreBytes rs = λ i d less. subst (λ (t : ℕ). t < 256) (sym (at i d (omega arith))) (are.elements i) in
+    let apart : AreDifferent rs =
+    λ i j d order less same.
+    let li : i < k = omega arith in
+    let lj : j < k = omega arith in
+    let is : i ≡ j = are.apart i j li lj (sym (at i d li) ∙ same ∙ at j d lj) in
+    omega arith
+    in
+    let agrees : Agree cs ds rs =
+    λ i d less.
+    let li : i < k = omega arith in
+    ap (value cs) (at i d li) ∙ agree i li ∙ sym (ap (value ds) (at i d li))
+    in
+    equal_where_agree cs ds rs bc bd bytes (lc ∙ sym ld) (len ∙ sym lc) apart agrees
+
+-- the weighed sum of a polynomial's values at k points is its value
+pub weighed_is_value : (k : ℕ) (p : ℕ → ℕ) (cs s : List ℕ) (x : ℕ) → ArePoints k p → length cs ≡ k → AreBytes cs → length s ≡ k → AreBytes s
+    → ((i : ℕ) → i < k → value cs (p i) ≡ get_or s i 0) → x < 256 → weighed p k s k x ≡ value cs x
+weighed_is_value k p cs s x are lc bc ls bs values lx =
+    let f : IsPolynomial k (weighed p k s k) = polynomial_weighed p k s k are ls bs (omega arith) in
+    let same : f.coefs ≡ cs =
+    one_polynomial k p f.coefs cs are f.bytes bc f.count lc
+    (λ i less. f.values (p i) (are.elements i) ∙ weighed_after p k s k i are ls bs (omega arith) less ∙ sym (values i less))
+    in
+    sym (f.values x lx) ∙ ap (λ c. value c x) same

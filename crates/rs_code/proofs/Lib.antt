@@ -1,5 +1,9 @@
 pub mod Polynomials
 pub mod Interpolate
+pub mod Weighing
+pub mod UniqueWeights
+pub mod SourceShares
 pub mod Unique
 pub mod Cuts
 pub mod BlockSymbols
+pub mod Public

@@ -1,24 +1,32 @@
 ghost use Rattle.std.specs.Prelude.{ℕ, ◌≡◌, ◌≤◌, ◌<◌, ◌*◌, length, slice_index};
+ghost use Rattle.std.specs.List.{range_with_len};
 ghost use Rattle.rs_code.specs.SourceRows.{AreRows, column, rows_of};
+ghost use Rattle.rs_code.specs.Weights.{AreWeights};
 
+use crate::places::Places;
+use arrayvec::ArrayVec;
 use std::marker::Model;
 
-/// The source rows of a block: `k` rows of `size` bytes, one after another in a slice of the caller's.
+/// The source rows of a block: `k` rows of `size` bytes, one after another in a slice of the caller's. Their places
+/// are kept with their shares, which all symbols of the block have in common.
 #[derive(Drop)]
 pub struct Block<'a> {
     k: u8,
     size: usize,
     bytes: &'a [u8],
+    places: Places,
 }
 
 impl<'a> Model for Block<'a> {
+    ghost use Rattle.std.specs.Prelude.{◌≡◌};
+    ghost use Rattle.std.specs.List.{range_with_len};
     ghost use Rattle.rs_code.specs.SourceRows.{AreRows, Rows};
 
     ghost Value = { Rows };
 
     ghost view = { λ b. record { k = b.k; size = b.size; bytes = b.bytes.now } };
 
-    ghost invariant = { λ b. AreRows (record { k = b.k; size = b.size; bytes = b.bytes.now }) };
+    ghost invariant = { λ b. AreRows (record { k = b.k; size = b.size; bytes = b.bytes.now }) × (b.places ≡ range_with_len 0 b.k) };
 }
 
 impl<'a> Block<'a> {
@@ -29,7 +37,13 @@ impl<'a> Block<'a> {
         requires whole { length bytes.now ≡ k * size }
         ensures { result ≡ record { k = k; size = size; bytes = bytes.now } }
     {
-        Block { k, size, bytes }
+        let places = Places::sources(k);
+        Block {
+            k,
+            size,
+            bytes,
+            places,
+        }
     }
 
     /// How many rows there are.
@@ -38,6 +52,15 @@ impl<'a> Block<'a> {
         ensures rows { AreRows self.now }
     {
         self.k
+    }
+
+    /// Leaves in `out` the weight of each row in symbol `esi`.
+    pub(crate) fn weights(&self, esi: u8, out: &mut ArrayVec<u8, 255>)
+        requires { esi < 255 }
+        ensures count { length out.new.items ≡ self.now.k }
+        ensures weights { AreWeights (range_with_len 0 self.now.k) esi out.new.items }
+    {
+        self.places.weights(esi, out);
     }
 
     /// The byte of row `i` at a place.

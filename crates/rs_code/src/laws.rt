@@ -1,8 +1,9 @@
-//! Laws over the definition of an encoding symbol. Each function does nothing; its contract is the law.
+//! Laws over the definitions of encoding symbols and weights. Each function does nothing; its contract is the law.
 ghost use Rattle.std.specs.Prelude.{ℕ, List, ◌≡◌, ◌≤◌, ◌<◌, length, slice_index};
 ghost use Rattle.gf256.specs.Field.{IsByte};
 ghost use Rattle.gf256.specs.Polynomial.{AreBytes};
 ghost use Rattle.rs_code.specs.Symbol.{IsSymbol};
+ghost use Rattle.rs_code.specs.Weights.{ArePlaces, AreWeights};
 
 /// A column of 1 to 255 bytes has exactly one symbol at each place below 255.
 pub fn one_symbol()
@@ -13,4 +14,9 @@ pub fn one_symbol()
 /// The symbols below k are the bytes of the column.
 pub fn source_symbols()
     ensures { (column : List ℕ) (i v : ℕ) → i < length column → IsSymbol column i v → v ≡ slice_index column i }
+{}
+
+/// Places have one list of weights at each place.
+pub fn one_list_of_weights()
+    ensures { (places v w : List ℕ) (at : ℕ) → ArePlaces places → AreWeights places at v → AreWeights places at w → v ≡ w }
 {}

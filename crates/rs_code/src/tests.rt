@@ -1,6 +1,8 @@
 ghost use Rattle.std.specs.Prelude.{◌≡◌, ◌<◌};
+ghost use Rattle.rs_code.specs.Weights.{ArePlaces};
 
-use super::{Block, symbol_byte, symbol_into};
+use super::{Block, Places, are_places, symbol_byte, symbol_into, weights};
+use arrayvec::ArrayVec;
 use std::process::Abort;
 use std::test::Fail;
 
@@ -13,6 +15,18 @@ fn assert_symbol(rt: &impl Abort, block: &Block<'_>, esi: u8, byte: u8)
     symbol_into(block, esi, &mut out);
     assert_eq!(rt; symbol_byte(block, esi, 0), byte, "symbol {esi}");
     assert_eq!(rt; out[0], byte, "row of symbol {esi}");
+}
+
+/// Asserts that the places have these weights at a place, by the call and by the places that are kept.
+fn assert_weights(rt: &impl Abort, places: &[u8], at: u8, expected: &[u8])
+    requires places { ArePlaces places.now }
+    requires at { at < 255 }
+{
+    let mut out = ArrayVec::new();
+    weights(places, at, &mut out);
+    assert_eq!(rt; out.as_slice(), expected, "weights at {at}");
+    Places::new(places).weights(at, &mut out);
+    assert_eq!(rt; out.as_slice(), expected, "weights at {at}, of places kept");
 }
 
 #[test]
@@ -53,5 +67,71 @@ fn source_symbols_are_the_rows(rt: HostRuntime) -> Result<(), Fail> {
     for esi in [0u8, 1, 100, 254] {
         assert_symbol(&rt, &block, esi, esi.wrapping_mul(31).wrapping_add(9));
     }
+    Ok(())
+}
+
+#[test]
+fn repair_symbols_of_other_programs(rt: HostRuntime) -> Result<(), Fail> {
+    // Row i is the byte (31 * i + 9) mod 256; two other programs agree on these symbols.
+    let mut rows = Vec::new(rt.alloc());
+    for i in 0..200u8 {
+        rows.push(i.wrapping_mul(31).wrapping_add(9))?;
+    }
+    assert!(rt; rows.len() == 200);
+    let symbols = [
+        (3, 3, 0x2D),
+        (3, 4, 0x13),
+        (3, 254, 0xB1),
+        (5, 5, 0x8A),
+        (5, 6, 0xB1),
+        (200, 200, 0x6A),
+        (200, 254, 0xAB),
+    ];
+    for (k, esi, byte) in symbols {
+        let block = Block::new(k, 1, &rows[..usize::from(k)]);
+        assert_symbol(&rt, &block, esi, byte);
+    }
+    Ok(())
+}
+
+#[test]
+fn weights_of_places(rt: HostRuntime) {
+    // A polynomial of one coefficient has one value everywhere.
+    assert_weights(&rt, &[5], 9, &[0x01]);
+    assert_weights(&rt, &[254], 0, &[0x01]);
+    assert_weights(&rt, &[0, 1], 2, &[0x02, 0x03]);
+    // At a place that is among them the value is the one there.
+    assert_weights(&rt, &[2, 3, 7], 3, &[0x00, 0x01, 0x00]);
+    assert_weights(&rt, &[7, 3, 2], 2, &[0x00, 0x00, 0x01]);
+}
+
+#[test]
+fn weights_of_255_places(rt: HostRuntime) {
+    let mut out = ArrayVec::new();
+    Places::sources(255).weights(100, &mut out);
+    assert_eq!(rt; out.len(), 255);
+    for (i, weight) in out.as_slice().iter().enumerate() {
+        assert_eq!(rt; *weight, if i == 100 { 0x01 } else { 0x00 }, "weight {i}");
+    }
+}
+
+#[test]
+fn lists_of_places(rt: HostRuntime) -> Result<(), Fail> {
+    let mut all = Vec::new(rt.alloc());
+    for place in 0..255u8 {
+        all.push(254 - place)?;
+    }
+    assert!(rt; are_places(all.as_slice()));
+    all.push(255)?;
+    assert!(rt; !are_places(all.as_slice()), "256 of them");
+    for (list, are) in [
+        ([7, 0, 254], true),
+        ([0, 1, 255], false),
+        ([3, 4, 3], false),
+        ([4, 3, 3], false),
+    ] {
+        assert_eq!(rt; are_places(&list), are, "{list:?}");
+    }
+    assert!(rt; !are_places(&[]), "none");
     Ok(())
 }

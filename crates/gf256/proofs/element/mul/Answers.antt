@@ -1,23 +1,16 @@
--- The sum starts at zero, takes one bit of the factor at a turn, and ends with no bit left.
-use Rattle.std.proofs.Common.{◌≡◌, ◌+◌, ◌-◌, ◌/◌, suc, bit_xor, ap, ap₂, sym, ◌∙◌, arith}
-use Rattle.std.specs.Int.Bits.{xor_zero_l, xor_zero_r}
-use Rattle.gf256.specs.Field.{product, product_of}
-use Rattle.gf256.proofs.Products.{product_of_step}
+-- The power of the sum of two logarithms is the product; a product with zero is zero.
+use Rattle.std.proofs.Common.{sym, ap, ap₂, ◌∙◌, ⊎_elim, arith}
+use Rattle.gf256.specs.Field.{product}
+use Rattle.gf256.proofs.Products.{zero_product, product_zero}
+use Rattle.gf256.proofs.Powers.{power_add}
 use Rattle.gf256.proofs.element.mul.Goals as goal
 
-pub loop-bit-init : goal.loop-bit-init
-loop-bit-init c = xor_zero_l _
+pub returns-then-b-eq0 : goal.returns-then-b-eq0
+returns-then-b-eq0 c =
+    ⊎_elim (λ null. sym (ap (λ a. product a c.args.b.0) null ∙ zero_product c.args.b.0 (omega arith)))
+    (λ null. sym (ap (product c.args.a.0) null.1 ∙ product_zero c.args.a.0 (omega arith)))
+    c.if-b-eq0.either
 
-pub loop-bit-preserved : goal.loop-bit-preserved
-loop-bit-preserved c =
-    let b = c.loop-bit in
-    let more : 8 - b._bit ≡ suc (8 - (b._bit + 1)) = omega arith in
-    ap₂ (λ s t. bit_xor s (product_of (8 - (b._bit + 1)) t (b.rest / 2))) c.add_if-sum.ensures c.doubled-term.ensures
-    ∙ product_of_step b.sum (8 - (b._bit + 1)) (8 - b._bit) b.term b.rest more
-    ∙ b.invariant
-
-pub returns : goal.returns
-unfolding product product_of
-returns c =
-    let done : 8 - c.loop-bit._bit ≡ 0 = omega arith in
-    sym (xor_zero_r _) ∙ ap (λ n. bit_xor c.loop-bit.sum (product_of n c.loop-bit.term c.loop-bit.rest)) (sym done) ∙ c.loop-bit.invariant
+pub returns-else-b-eq0 : goal.returns-else-b-eq0
+returns-else-b-eq0 c =
+    c.power_at.ensures ∙ power_add c.log.result c.log-else-b-eq0.result ∙ ap₂ product c.log.ensures.power c.log-else-b-eq0.ensures.power

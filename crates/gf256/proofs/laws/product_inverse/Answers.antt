@@ -1,6 +1,6 @@
 -- The inverse is the power 254, and each other one is equal to it.
 use Rattle.std.proofs.Common.{◌≢◌, ◌∙◌, sym}
-use Rattle.gf256.proofs.Tables.{inverse}
+use Rattle.gf256.specs.Field.{inverse}
 use Rattle.gf256.proofs.Products.{product_inverse, inverse_lt, inverse_unique, some_factor}
 use Rattle.gf256.proofs.laws.product_inverse.Goals as goal
 

@@ -1,8 +1,9 @@
 -- It exists by interpolation, and is the only one by the root bound.
 use Rattle.std.proofs.Common.{length, refl}
 use Rattle.gf256.specs.Polynomial.{power}
-use Rattle.gf256.proofs.Powers.{power_lt}
-use Rattle.rs_code.proofs.Interpolate.{weighed, weighed_lt, interpolates}
+use Rattle.gf256.proofs.Public.{power_lt}
+use Rattle.rs_code.specs.Interpolation.{weighed}
+use Rattle.rs_code.proofs.Interpolate.{weighed_lt, interpolates}
 use Rattle.rs_code.proofs.Unique.{symbol_unique}
 use Rattle.rs_code.proofs.laws.one_symbol.Goals as goal
 

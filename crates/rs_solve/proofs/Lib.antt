@@ -1,0 +1,4 @@
+pub mod RowBytes
+pub mod Through
+pub mod StepCounts
+pub mod SourceRow
