@@ -1,26 +1,25 @@
 -- The first form of a packet and the reading of it.
-use Rattle.std.proofs.Common.{◌≡◌, ℕ, ◌+◌, ◌-◌, ◌^◌, ◌<◌, ◌≤◌, Bool, true, false, not, cond, List, [], ◌∷◌, ◌++◌, length, get_or, take, drop, drop-cons, Option, Some, None, refl, sym, ap, subst, ◌∙◌, arith, inl, inr, All}
+use Rattle.std.proofs.Common.{◌≡◌, ℕ, ◌+◌, ◌^◌, ◌<◌, ◌≤◌, Bool, true, false, not, cond, List, ◌∷◌, ◌++◌, length, get_or, take, drop, drop-cons, Option, Some, None, refl, sym, ap, subst, ◌∙◌, arith, inl, inr, All}
 use Rattle.std.specs.Prelude.{◌==◌, ◌&&◌, ◌||◌, nat_eq, nat_lt, nat_le, is_none}
-use Rattle.std.specs.List.{starts_with, list_all}
+use Rattle.std.specs.List.{starts_with}
 use Rattle.std.proofs.Math.Nat.{mod-eq_of_lt, mul-div_cancel}
 use Rattle.std.proofs.lemmas.Bool.{eqb-true, eq-eqb, ltb-true, lt-ltb, leb-true, le-leb, and_parts, and_from}
 use Rattle.std.proofs.lemmas.Bool.Decides.{Decides-eqb}
-use Rattle.std.proofs.lemmas.List.{append-nil, drop_all, drop-drop, length-drop, length-take, take-append-drop}
+use Rattle.std.proofs.lemmas.List.{drop_all, drop-drop, length-drop, length-take, take-append-drop}
 use Rattle.std.proofs.lemmas.Option.{cond_some, same_Some}
 use Rattle.std.proofs.lemmas.Slice.Eq.{starts_is}
 use Rattle.byteorder.specs.Endian.{big_number, big_bytes}
 use Rattle.byteorder.specs.Numbers.{big_number-reads_back, big_from-lt}
+use Rattle.wire_bytes.specs.Bytes.{AreBytes, are_zero}
+use Rattle.wire_bytes.proofs.Public.{byte_at_place, bytes_drop, bytes_take, number_piece, one_byte, zeros_from_test, test_from_zeros, filled_whole}
 use Rattle.oti_blocks.specs.Partition.{ObjectInformation, IsSound, blocks, size_at, encoding_count, encoding_at, last_length}
-use Rattle.oti_blocks.specs.Faults.{first_fault}
-use Rattle.oti_blocks.specs.Wire.{fti, fti_content, stated}
+use Rattle.oti_blocks.specs.Faults.{information_fault}
+use Rattle.oti_blocks.specs.Wire.{fti_start, fti, fti_content, stated}
 use Rattle.oti_blocks.specs.declared.fault.OtiFault.{OtiFault}
-use Rattle.oti_blocks.proofs.Bytes.{IsBytes}
-use Rattle.oti_blocks.proofs.Soundness.{HasWidths, no_fault_from_sound, sound_from_no_fault}
-use Rattle.oti_blocks.proofs.Spelling.{stated-fti_content, stated-take, fti_content-stated, one_byte}
-use Rattle.oti_blocks.proofs.Sizes.{size_bounds}
+use Rattle.oti_blocks.proofs.Public.{no_fault_from_sound, sound_from_no_fault, stated-fti_content, stated-take, stated-widths, fti_content-stated, size_bounds}
 use Rattle.alc_packet.specs.Packet.{SymbolPacket, IsPacket, full}
+use Rattle.alc_packet.proofs.Packets.{made}
 use Rattle.alc_packet.specs.FirstForm.{first_words, first_form, IsFirstForm, packet_in, has_fixed_bytes, is_plain, has_place, is_filled, keeps_first_form, is_first, reading}
-use Rattle.alc_packet.proofs.Pieces.{IsBytes-drop, IsBytes-take, piece, zeros_from_test, test_from_zeros}
 
 -- ---- the values
 
@@ -61,14 +60,14 @@ values_from_test p e =
       place = ltb-true p.esi (size_at p.oti 0) within.0;
       whole = eqb-true (length p.symbol) p.oti.symbol within.1;
       filled = λ is. zeros_from_test (drop (last_length p.oti) p.symbol)
-          (or_filled (p.esi + 1 == size_at p.oti 0) (list_all (λ x. x == 0) (drop (last_length p.oti) p.symbol)) d.1 (eq-eqb (p.esi + 1) (size_at p.oti 0) is));
+          (or_filled (p.esi + 1 == size_at p.oti 0) (are_zero (drop (last_length p.oti) p.symbol)) d.1 (eq-eqb (p.esi + 1) (size_at p.oti 0) is));
     }
 
 pub test_from_values : (p : SymbolPacket) → HasFirstValues p → keeps_first_form p.tsi p.oti p.sbn p.esi p.symbol ≡ true
 test_from_values p v =
     let place = has_place p.oti p.sbn p.esi p.symbol in
     let filled = is_filled p.oti p.esi p.symbol in
-    let zeros = list_all (λ x. x == 0) (drop (last_length p.oti) p.symbol) in
+    let zeros = are_zero (drop (last_length p.oti) p.symbol) in
     and_from (p.tsi == 1) (is_plain p.oti && (place && filled)) (eq-eqb p.tsi 1 v.session)
     (and_from (is_plain p.oti) (place && filled)
     (and_from (blocks p.oti == 1) (p.oti.max_n == p.oti.max_block) (eq-eqb (blocks p.oti) 1 v.one_block) (eq-eqb p.oti.max_n p.oti.max_block v.no_repair))
@@ -122,12 +121,6 @@ values_from_packet d p first =
 
 -- ---- what is spelled is read
 
--- a packet by its parts
-pub made : (p : SymbolPacket) (tsi toi : ℕ) (oti : ObjectInformation) (sbn esi : ℕ) (symbol : List ℕ) (close : Bool)
-    → tsi ≡ p.tsi → toi ≡ p.toi → oti ≡ p.oti → sbn ≡ p.sbn → esi ≡ p.esi → symbol ≡ p.symbol → close ≡ p.close
-    → ◌≡◌ {A = SymbolPacket} (record { tsi = tsi; toi = toi; oti = oti; sbn = sbn; esi = esi; symbol = symbol; close = close }) p
-made p tsi toi oti sbn esi symbol close a b c d e f g = rw (a, b, c, d, e, f, g) refl
-
 -- the values are read back
 packet_in-first_form : (p : SymbolPacket) → IsSound p.oti → p.tsi < 2 ^ 32 → p.toi < 2 ^ 32 → p.sbn < 2 ^ 24 → p.esi < 2 ^ 8 → p.close ≡ false → packet_in (first_form p) ≡ p
 packet_in-first_form p sound tsi toi sbn esi open_session =
@@ -154,7 +147,7 @@ chosen fixed q p is_fixed same first = rw (is_fixed, same, first) refl
 
 is_first_from_values : (p : SymbolPacket) → IsSound p.oti → HasFirstValues p → is_first p ≡ true
 is_first_from_values p sound v =
-    and_from (is_none (first_fault p.oti)) (keeps_first_form p.tsi p.oti p.sbn p.esi p.symbol) (ap is_none (no_fault_from_sound p.oti sound)) (test_from_values p v)
+    and_from (is_none (information_fault p.oti)) (keeps_first_form p.tsi p.oti p.sbn p.esi p.symbol) (ap is_none (no_fault_from_sound p.oti sound)) (test_from_values p v)
 
 -- a packet in its first form is read
 pub reading-first_form : (d : List ℕ) (p : SymbolPacket) → IsFirstForm d p → reading d ≡ Some p
@@ -171,29 +164,29 @@ reading-first_form d p first =
 -- ---- what is read is spelled
 
 -- the transmission information and what stands behind it
-information_piece : (bytes : List ℕ) → 10 ≤ length bytes → IsBytes bytes → bytes ≡ fti_content (stated bytes) ++ drop 10 bytes
+information_piece : (bytes : List ℕ) → 10 ≤ length bytes → AreBytes bytes → bytes ≡ fti_content (stated bytes) ++ drop 10 bytes
 information_piece bytes le fits =
-    let front = fti_content-stated (take 10 bytes) (omega (arith, length-take 10 bytes)) (IsBytes-take 10 bytes fits) in
+    let front = fti_content-stated (take 10 bytes) (omega (arith, length-take 10 bytes)) (bytes_take 10 bytes fits) in
     let all : fti_content (stated bytes) ≡ take 10 bytes = ap fti_content (sym (stated-take bytes)) ∙ front in
     sym (ap (λ (xs : List ℕ). xs ++ drop 10 bytes) all ∙ take-append-drop 10 bytes)
 
 -- the bytes are those of the values in them
-spelled_again : (d : List ℕ) → IsBytes d → has_fixed_bytes d ≡ true → d ≡ first_form (packet_in d)
+spelled_again : (d : List ℕ) → AreBytes d → has_fixed_bytes d ≡ true → d ≡ first_form (packet_in d)
 spelled_again d fits e =
-    let two : List ℕ = 0x40 ∷ 3 ∷ [] in
+    let two : List ℕ = fti_start in
     let fixed = and_parts (nat_le 32 (length d)) (starts_with nat_eq d first_words && starts_with nat_eq (drop 16 d) two) e in
     let words = and_parts (starts_with nat_eq d first_words) (starts_with nat_eq (drop 16 d) two) fixed.1 in
     let long : 32 ≤ length d = leb-true 32 (length d) fixed.0 in
     let front : d ≡ first_words ++ drop 8 d = (starts_is Decides-eqb d first_words (starts_with nat_eq d first_words) refl).0 words.0 in
     let middle : drop 16 d ≡ two ++ drop 2 (drop 16 d) = (starts_is Decides-eqb (drop 16 d) two (starts_with nat_eq (drop 16 d) two) refl).0 words.1 in
-    let information = information_piece (drop 18 d) (omega (arith, length-drop 18 d)) (IsBytes-drop 18 d fits) in
+    let information = information_piece (drop 18 d) (omega (arith, length-drop 18 d)) (bytes_drop 18 d fits) in
     let last : drop 31 d ≡ get_or d 31 0 ∷ drop 32 d = drop-cons d 31 0 (omega arith) in
-    let e6 : drop 31 d ≡ big_bytes 1 (get_or d 31 0) ++ drop 32 d = last ∙ sym (ap (λ (xs : List ℕ). xs ++ drop 32 d) (one_byte (get_or d 31 0) (fits 31))) in
-    let e5 = piece 28 3 d (omega arith) fits in
+    let e6 : drop 31 d ≡ big_bytes 1 (get_or d 31 0) ++ drop 32 d = last ∙ sym (ap (λ (xs : List ℕ). xs ++ drop 32 d) (one_byte (get_or d 31 0) (byte_at_place d fits 31))) in
+    let e5 = number_piece 28 3 d (omega arith) fits in
     let e4 : drop 18 d ≡ fti_content (stated (drop 18 d)) ++ drop 28 d = information ∙ ap (λ (xs : List ℕ). fti_content (stated (drop 18 d)) ++ xs) (drop-drop 10 18 d) in
     let e3 : drop 16 d ≡ 0x40 ∷ 3 ∷ drop 18 d = middle ∙ ap (λ (xs : List ℕ). 0x40 ∷ 3 ∷ xs) (drop-drop 2 16 d) in
-    let e2 = piece 12 4 d (omega arith) fits in
-    let e1 = piece 8 4 d (omega arith) fits in
+    let e2 = number_piece 12 4 d (omega arith) fits in
+    let e1 = number_piece 8 4 d (omega arith) fits in
     front ∙ ap (λ (r : List ℕ). first_words ++ r)
     (e1 ∙ ap (λ (r : List ℕ). big_bytes 4 (big_number 4 (drop 8 d)) ++ r)
     (e2 ∙ ap (λ (r : List ℕ). big_bytes 4 (big_number 4 (drop 12 d)) ++ r)
@@ -201,26 +194,18 @@ spelled_again d fits e =
     (e4 ∙ ap (λ (r : List ℕ). fti_content (stated (drop 18 d)) ++ r)
     (e5 ∙ ap (λ (r : List ℕ). big_bytes 3 (big_number 3 (drop 28 d)) ++ r) e6)))))
 
--- bytes of a header hold no larger numbers
-widths : (bytes : List ℕ) → IsBytes bytes → HasWidths (stated bytes)
-widths bytes fits = record {
-  length = big_from-lt 0 6 bytes fits;
-  symbol = big_from-lt 0 2 (drop 6 bytes) (IsBytes-drop 6 bytes fits);
-  max_n = fits 9;
-}
-
 no_fault : (fault : Option OtiFault) → is_none fault ≡ true → fault ≡ None
 no_fault None e = refl
 no_fault (Some fault) e = absurd cc
 
 -- what the tests of bytes say
-pub first_form_from_tests : (d : List ℕ) → IsBytes d → has_fixed_bytes d ≡ true → is_first (packet_in d) ≡ true → IsFirstForm d (packet_in d)
+pub first_form_from_tests : (d : List ℕ) → AreBytes d → has_fixed_bytes d ≡ true → is_first (packet_in d) ≡ true → IsFirstForm d (packet_in d)
 first_form_from_tests d fits fixed first =
     let p = packet_in d in
-    let parts = and_parts (is_none (first_fault p.oti)) (keeps_first_form p.tsi p.oti p.sbn p.esi p.symbol) first in
-    let sound = sound_from_no_fault p.oti (widths (drop 18 d) (IsBytes-drop 18 d fits)) (no_fault (first_fault p.oti) parts.0) in
+    let parts = and_parts (is_none (information_fault p.oti)) (keeps_first_form p.tsi p.oti p.sbn p.esi p.symbol) first in
+    let sound = sound_from_no_fault p.oti (stated-widths (drop 18 d) (bytes_drop 18 d fits)) (no_fault (information_fault p.oti) parts.0) in
     let v = values_from_test p parts.1 in
-    let object : p.toi < 2 ^ 32 = big_from-lt 0 4 (drop 12 d) (IsBytes-drop 12 d fits) in
+    let object : p.toi < 2 ^ 32 = big_from-lt 0 4 (drop 12 d) (byte_at_place (drop 12 d) (bytes_drop 12 d fits)) in
     record {
       spelling = spelled_again d fits fixed;
       session = v.session;
@@ -233,7 +218,7 @@ first_form_from_tests d fits fixed first =
     }
 
 -- what is read is spelled so
-pub first_form_from_reading : (d : List ℕ) (p : SymbolPacket) → IsBytes d → reading d ≡ Some p → IsFirstForm d p
+pub first_form_from_reading : (d : List ℕ) (p : SymbolPacket) → AreBytes d → reading d ≡ Some p → IsFirstForm d p
 unfolding reading
 first_form_from_reading d p fits e =
     let is = cond_some (has_fixed_bytes d && is_first (packet_in d)) (packet_in d) p e in
@@ -247,6 +232,4 @@ one_packet d p q a b = same_Some p q (sym (reading-first_form d p a) ∙ reading
 -- a whole symbol is filled by nothing
 pub full-whole : (p : SymbolPacket) → length p.symbol ≡ p.oti.symbol → full p ≡ p.symbol
 unfolding full
-full-whole p whole =
-    let none : p.oti.symbol - length p.symbol ≡ 0 = omega arith in
-    rw none (append-nil p.symbol)
+full-whole p whole = filled_whole p.oti.symbol p.symbol (omega (arith, whole))

@@ -1,3 +1,9 @@
-pub mod Pieces
+pub mod Packets
 pub mod FirstForms
 pub mod Values
+pub mod Lines
+pub mod Readings
+pub mod Saying
+pub mod OneAnswer
+pub mod Written
+pub mod Public

@@ -1,11 +1,12 @@
 -- The first form of a packet: a header of seven words with TSI and TOI of 32 bits (RFC 5651, section 5.1),
 -- one EXT_FTI, the payload ID and the whole symbol (RFC 5775, section 2; RFC 5510, section 4).
 use Rattle.std.specs.Prelude.{◌≡◌, ℕ, ◌+◌, ◌^◌, ◌<◌, Bool, false, not, ◌&&◌, ◌||◌, ◌==◌, nat_eq, nat_lt, nat_le, if◌then◌else◌, List, [], ◌∷◌, ◌++◌, length, drop, slice_index, Option, Some, None, is_none}
-use Rattle.std.specs.List.{starts_with, list_all}
+use Rattle.std.specs.List.{starts_with}
 use Rattle.byteorder.specs.Endian.{big_number, big_bytes}
+use Rattle.wire_bytes.specs.Bytes.{are_zero}
 use Rattle.oti_blocks.specs.Partition.{ObjectInformation, blocks, size_at, last_length}
-use Rattle.oti_blocks.specs.Faults.{first_fault}
-use Rattle.oti_blocks.specs.Wire.{fti, stated}
+use Rattle.oti_blocks.specs.Faults.{information_fault}
+use Rattle.oti_blocks.specs.Wire.{fti_start, fti, stated}
 use Rattle.alc_packet.specs.Packet.{SymbolPacket, IsPacket}
 
 -- Version 1, S and O one word each, no flag, seven words, codepoint 5; and CCI, which is zero.
@@ -43,7 +44,7 @@ packet_in d = record {
 
 -- the fixed bytes stand at their places
 abbrev pub has_fixed_bytes : List ℕ → Bool
-has_fixed_bytes d = nat_le 32 (length d) && (starts_with nat_eq d first_words && starts_with nat_eq (drop 16 d) (0x40 ∷ 3 ∷ []))
+has_fixed_bytes d = nat_le 32 (length d) && (starts_with nat_eq d first_words && starts_with nat_eq (drop 16 d) fti_start)
 
 -- the object is of one block without repair symbols
 abbrev pub is_plain : ObjectInformation → Bool
@@ -55,7 +56,7 @@ has_place o sbn esi symbol = sbn == 0 && (nat_lt esi (size_at o 0) && length sym
 
 -- what the object doesn't fill of its last symbol is zero
 abbrev pub is_filled : ObjectInformation → ℕ → List ℕ → Bool
-is_filled o esi symbol = not (esi + 1 == size_at o 0) || list_all (λ x. x == 0) (drop (last_length o) symbol)
+is_filled o esi symbol = not (esi + 1 == size_at o 0) || are_zero (drop (last_length o) symbol)
 
 -- the values are those of a first form
 abbrev pub keeps_first_form : ℕ → ObjectInformation → ℕ → ℕ → List ℕ → Bool
@@ -63,7 +64,7 @@ keeps_first_form tsi o sbn esi symbol = tsi == 1 && (is_plain o && (has_place o 
 
 -- the same of all values of a packet, whose transmission information has no fault
 abbrev pub is_first : SymbolPacket → Bool
-is_first p = is_none (first_fault p.oti) && keeps_first_form p.tsi p.oti p.sbn p.esi p.symbol
+is_first p = is_none (information_fault p.oti) && keeps_first_form p.tsi p.oti p.sbn p.esi p.symbol
 
 -- the packet of which the bytes are the first form
 unfoldable pub reading : List ℕ → Option SymbolPacket

@@ -1,2 +1,10 @@
 pub mod Packet
+pub mod Pieces
+pub mod Datagram
+pub mod Refusal
+pub mod Code
+pub mod Answer
+pub mod Writing
 pub mod FirstForm
+pub mod Reply
+pub mod Inner

@@ -1,5 +1,6 @@
 -- A packet with one encoding symbol (RFC 5775; RFC 5510, section 4).
-use Rattle.std.specs.Prelude.{◌≡◌, ℕ, ◌+◌, ◌-◌, ◌^◌, ◌<◌, Bool, List, ◌++◌, length, drop, replicate, ◌⊎◌, All}
+use Rattle.std.specs.Prelude.{◌≡◌, ℕ, ◌+◌, ◌^◌, ◌<◌, Bool, List, length, drop, ◌⊎◌, All}
+use Rattle.wire_bytes.specs.Bytes.{zero_filled}
 use Rattle.oti_blocks.specs.Partition.{ObjectInformation, IsSound, blocks, size_at, encoding_at, last_length}
 
 -- What a packet says: its session (TSI) and its object (TOI), the object's transmission information, the
@@ -39,4 +40,4 @@ pub record IsPacket (p : SymbolPacket) : Type 0 where
 
 -- the symbol, filled with zeros
 unfoldable pub full : SymbolPacket → List ℕ
-full p = p.symbol ++ replicate (p.oti.symbol - length p.symbol) 0
+full p = zero_filled p.oti.symbol p.symbol

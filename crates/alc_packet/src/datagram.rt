@@ -3,6 +3,9 @@
 use oti_blocks::Oti;
 use std::marker::Model;
 
+/// The codepoint of a packet, which is its FEC Encoding ID (RFC 5510, section 4).
+pub(crate) const CODEPOINT: u8 = 5;
+
 /// A packet with one encoding symbol. Its type keeps that the TSI has 48 bits and the TOI 112, that the
 /// block and the symbol's place are the object's, and that the symbol has the object's symbol length. The
 /// last source symbol of the object is zero behind the object's end, or it is cut there.
@@ -41,11 +44,4 @@ pub enum Datagram<'a> {
     Symbol(Packet<'a>),
     /// A header alone, of the session `tsi`.
     Control { tsi: u64, close: bool },
-}
-
-/// Why a datagram isn't read.
-#[derive(Clone, Copy, Debug, PartialEq, Eq)]
-pub enum Refusal {
-    /// It isn't the first form of a packet, and other forms aren't read yet.
-    NotYet,
 }

@@ -1,23 +1,27 @@
 //! Reading a packet in its first form.
 
-ghost use Rattle.std.specs.Prelude.{◌≡◌, ◌==◌, Ok, Err, length, MatchOption};
-ghost use Rattle.std.specs.List.{list_all};
+ghost use Rattle.std.specs.Prelude.{◌≡◌, Ok, Err, length, MatchOption};
 ghost use Rattle.oti_blocks.specs.Partition.{blocks};
 ghost use Rattle.alc_packet.specs.Packet.{SymbolPacket};
 ghost use Rattle.alc_packet.specs.FirstForm.{IsFirstForm, has_fixed_bytes, is_plain, has_place, is_filled, keeps_first_form, reading};
 
-use crate::datagram::{Datagram, Packet, Refusal};
+use crate::datagram::{Datagram, Packet};
 use byteorder::{BigEndian, ByteOrder};
-use oti_blocks::{Oti, read_fti};
+use oti_blocks::{FTI_START, Oti, read_fti};
+use wire_bytes::is_zero;
 
 /// Version 1, TSI and TOI of one word each, no flag, a header of seven words, codepoint 5; then CCI.
 const FIRST_WORDS: [u8; 8] = [0x10, 0xA0, 0x07, 0x05, 0, 0, 0, 0];
 
-/// The type of EXT_FTI and its length of three words.
-const FTI_START: [u8; 2] = [0x40, 3];
-
 /// The bytes before the symbol.
 const SYMBOL_START: usize = 32;
+
+/// Why a datagram isn't read as a packet in its first form.
+#[derive(Clone, Copy, Debug, PartialEq, Eq)]
+pub enum NotYet {
+    /// It has another form, and the receiver takes no other one yet.
+    OtherForm,
+}
 
 /// Reads a datagram that is a packet in its first form:
 ///
@@ -45,8 +49,8 @@ const SYMBOL_START: usize = 32;
 /// ```
 ///
 /// Every other datagram is `NotYet`.
-pub fn read(bytes: &[u8]) -> Result<Datagram<'_>, Refusal>
-    ensures exact { MatchOption (reading bytes.now) (result ≡ Err Refusal.NotYet) (λ p. result ≡ Ok (Datagram.Symbol p)) }
+pub fn read_first_form(bytes: &[u8]) -> Result<Datagram<'_>, NotYet>
+    ensures exact { MatchOption (reading bytes.now) (result ≡ Err NotYet.OtherForm) (λ p. result ≡ Ok (Datagram.Symbol p)) }
     // What is read is spelled so.
     ensures found { (p : SymbolPacket) → result ≡ Ok (Datagram.Symbol p) → IsFirstForm bytes.now p }
     // What is spelled so is read.
@@ -55,7 +59,7 @@ pub fn read(bytes: &[u8]) -> Result<Datagram<'_>, Refusal>
 {
     match read_packet(bytes) {
         Some(packet) => Ok(Datagram::Symbol(packet)),
-        None => Err(Refusal::NotYet),
+        None => Err(NotYet::OtherForm),
     }
 }
 
@@ -127,10 +131,4 @@ fn is_filled(oti: &Oti, esi: u8, symbol: &[u8]) -> bool
         return true;
     }
     is_zero(&symbol[usize::from(oti.last_length())..])
-}
-
-fn is_zero(bytes: &[u8]) -> bool
-    ensures { result ≡ list_all (λ x. x == 0) bytes.now }
-{
-    bytes.iter().all(|byte| *byte == 0)
 }

@@ -1,13 +1,22 @@
 //! Packets of an ALC session with one encoding symbol each (RFC 5775), with the code of FEC Encoding ID 5
-//! (RFC 5510). No call takes memory.
+//! (RFC 5510): every datagram is read, and packets are made and written. Only `write` takes memory.
 #![tactic(auto)]
 
 mod datagram;
 mod first_form;
 pub mod laws;
+mod making;
+mod reading;
+mod refusal;
+mod writing;
 
-pub use datagram::{Datagram, Packet, Refusal};
-pub use first_form::read;
+pub use datagram::{Datagram, Packet};
+pub use first_form::{NotYet, read_first_form};
+pub use reading::read;
+pub use refusal::Refusal;
+pub use writing::write;
 
+#[cfg(test)]
+mod first_form_tests;
 #[cfg(test)]
 mod tests;

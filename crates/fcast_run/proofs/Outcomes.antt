@@ -5,8 +5,7 @@ use Rattle.std.specs.Option.{option_and_then}
 use Rattle.std.proofs.lemmas.Bool.Decides.{nat_tests}
 use Rattle.alc_packet.specs.Packet.{SymbolPacket}
 use Rattle.alc_packet.specs.FirstForm.{reading}
-use Rattle.alc_packet.proofs.FirstForms.{first_form_from_reading}
-use Rattle.oti_blocks.proofs.Bytes.{IsBytes}
+use Rattle.alc_packet.proofs.Public.{AreBytes, first_form_from_reading}
 use Rattle.carousel_cid.specs.Instances.{Shown}
 use Rattle.receiver_core.specs.Held.{Held}
 use Rattle.receiver_core.specs.Count.{Verdict, New, Repeat, Spare, OtiDiffers, SymbolDiffers, OverBudget, verdict, step}
@@ -91,7 +90,7 @@ pub record IsOfSession (held : Held) (d : List ℕ) (p : SymbolPacket) : Type 0 
   pub taken : is_built_taken (taken_of default_tsi default_budget held d) ≡ is_built_verdict (verdict default_budget held p)
   pub after : held_with default_tsi default_budget held d ≡ step default_budget held p
 
-of_session : (held : Held) (d : List ℕ) (p : SymbolPacket) → IsBytes d → reading d ≡ Some p → IsOfSession held d p
+of_session : (held : Held) (d : List ℕ) (p : SymbolPacket) → AreBytes d → reading d ≡ Some p → IsOfSession held d p
 of_session held d p bytes read =
     let session : (p.tsi == default_tsi) ≡ true = ap (λ t. t == default_tsi) (first_form_from_reading d p bytes read).session in
     record {
@@ -106,7 +105,7 @@ both true true e f = cc
 both false b e f = cc
 
 -- a datagram that was taken goes on to what is left
-pub goes_on : (held : Held) (d : List ℕ) → IsBytes d → is_built_taken (taken_of default_tsi default_budget held d) ≡ true → has_unbuilt (held_with default_tsi default_budget held d) ≡ false
+pub goes_on : (held : Held) (d : List ℕ) → AreBytes d → is_built_taken (taken_of default_tsi default_budget held d) ≡ true → has_unbuilt (held_with default_tsi default_budget held d) ≡ false
     → (most : ℕ) (left : List (List ℕ)) (torn : Option ℕ) → outcome_from (most + 1) held (d ∷ left) torn ≡ outcome_from most (held_with default_tsi default_budget held d) left torn
 goes_on held d bytes taken read_all most left torn = elim (reading d) as (λ o. reading d ≡ o → outcome_from (most + 1) held (d ∷ left) torn ≡ outcome_from most (held_with default_tsi default_budget held d) left torn) [
   | None ↦ λ e. absurd (let no_packet : false ≡ true = sym (ap (λ o. is_built_taken (taken_reading default_tsi default_budget held o)) e) ∙ taken in cc)
@@ -121,7 +120,7 @@ and_false true = refl
 and_false false = refl
 
 -- a datagram that wasn't
-pub stops_at_datagram : (held : Held) (d : List ℕ) → IsBytes d → is_built_taken (taken_of default_tsi default_budget held d) ≡ false
+pub stops_at_datagram : (held : Held) (d : List ℕ) → AreBytes d → is_built_taken (taken_of default_tsi default_budget held d) ≡ false
     → (most : ℕ) (left : List (List ℕ)) (torn : Option ℕ) → outcome_from most held (d ∷ left) torn ≡ not_built
 stops_at_datagram held d bytes refused most left torn = elim (reading d) as (λ o. reading d ≡ o → outcome_from most held (d ∷ left) torn ≡ not_built) [
   | None ↦ λ e. unread most held d left torn e
@@ -131,7 +130,7 @@ stops_at_datagram held d bytes refused most left torn = elim (reading d) as (λ 
 ] refl
 
 -- an object that isn't read yet
-pub stops_at_object : (held : Held) (d : List ℕ) → IsBytes d → is_built_taken (taken_of default_tsi default_budget held d) ≡ true → has_unbuilt (held_with default_tsi default_budget held d) ≡ true
+pub stops_at_object : (held : Held) (d : List ℕ) → AreBytes d → is_built_taken (taken_of default_tsi default_budget held d) ≡ true → has_unbuilt (held_with default_tsi default_budget held d) ≡ true
     → (most : ℕ) (left : List (List ℕ)) (torn : Option ℕ) → outcome_from most held (d ∷ left) torn ≡ not_built
 stops_at_object held d bytes taken unread_object most left torn = elim (reading d) as (λ o. reading d ≡ o → outcome_from most held (d ∷ left) torn ≡ not_built) [
   | None ↦ λ e. unread most held d left torn e
@@ -147,7 +146,7 @@ stops_at_object held d bytes taken unread_object most left torn = elim (reading 
 pub record Steps (old taken_by settled : Receiving) (d : List ℕ) (taken : Taken) : Type 0 where
   pub tsi : old.tsi ≡ default_tsi
   pub budget : old.budget ≡ default_budget
-  pub bytes : IsBytes d
+  pub bytes : AreBytes d
   pub answer : taken ≡ taken_of old.tsi old.budget old.held d
   pub held : taken_by ≡ record old { held = held_with old.tsi old.budget old.held d }
   pub best : settled ≡ record taken_by { installed = best taken_by.held; unbuilt = has_unbuilt taken_by.held }
@@ -174,7 +173,7 @@ step_stops old taken_by settled d taken s built unread_object most left torn =
     stops_at_object old.held d s.bytes (taken_by_default old taken_by settled d taken s ∙ built) (unbuilt_by_default old taken_by settled d taken s ∙ unread_object) most left torn
 
 -- a datagram that isn't taken stops the run
-pub refused_stops : (old : Receiving) (d : List ℕ) (taken : Taken) → old.tsi ≡ default_tsi → old.budget ≡ default_budget → IsBytes d → taken ≡ taken_of old.tsi old.budget old.held d → is_built_taken taken ≡ false
+pub refused_stops : (old : Receiving) (d : List ℕ) (taken : Taken) → old.tsi ≡ default_tsi → old.budget ≡ default_budget → AreBytes d → taken ≡ taken_of old.tsi old.budget old.held d → is_built_taken taken ≡ false
     → (most : ℕ) (left : List (List ℕ)) (torn : Option ℕ) → outcome_from most old.held (d ∷ left) torn ≡ not_built
 refused_stops old d taken tsi budget bytes answer refused most left torn =
     stops_at_datagram old.held d bytes

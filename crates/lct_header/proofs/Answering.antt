@@ -1,36 +1,21 @@
 -- The one answer for each list of bytes.
-use Rattle.std.proofs.Common.{◌≡◌, ℕ, ◌+◌, ◌-◌, ◌*◌, ◌<◌, ◌≤◌, true, false, cond, eqb, ltb, List, [], ◌∷◌, ◌++◌, length, None, Result, Ok, Err, refl, sym, ap, subst, ◌∙◌, arith, inl, inr, ◌⊎◌}
+use Rattle.std.proofs.Common.{◌≡◌, ℕ, ◌+◌, ◌-◌, ◌*◌, ◌<◌, ◌≤◌, true, false, eqb, ltb, List, [], ◌∷◌, ◌++◌, length, None, Result, Ok, Err, refl, sym, ap, subst, ◌∙◌, arith, inl, inr, ◌⊎◌}
 use Rattle.std.specs.Prelude.{◌||◌, IfOk, IfErr}
 use Rattle.std.proofs.lemmas.Bool.{ne_eqb, eq-eqb, lt-ltb, le-ltb, or_left, or_right, or_from}
 use Rattle.std.proofs.lemmas.List.{append-nil, length-append}
 use Rattle.lct_header.specs.declared.fault.HeaderFault.{HeaderFault}
 use Rattle.lct_header.specs.declared.fault.HeaderFault.TheVariants.{Short, Version, LengthField, ExtensionZero, ExtensionLong}
-use Rattle.lct_header.specs.Extensions.{ExtensionOf, HasNoLength, PassesEnd, StopsAt, first_of, split}
-use Rattle.lct_header.specs.Word.{FirstWord, fixed_length, version, word_in}
-use Rattle.lct_header.specs.Header.{HeaderFields, ViewOf, header_of, IsLaidOut, StartsWithHeader}
-use Rattle.lct_header.specs.Faults.{HasWrongLength, IsFirstFault}
+use Rattle.lct_header.specs.Extension.{Extension}
+use Rattle.lct_header.specs.Word.{FirstWord, fixed_length, version}
+use Rattle.lct_header.specs.Header.{Header, header_of}
+use Rattle.lct_header.specs.HeaderView.{HeaderView, IsLaidOut, StartsWithHeader}
+use Rattle.lct_header.specs.Faults.{HasNoLength, PassesEnd, StopsAt, HasWrongLength, IsFirstFault}
+use Rattle.lct_header.specs.Answer.{stop_at, answer_of, answer}
+use Rattle.lct_header.specs.Inner.Extensions.{first_of, split}
+use Rattle.lct_header.specs.Inner.Word.{word_in}
 use Rattle.lct_header.proofs.Words.{word_again}
 use Rattle.lct_header.proofs.Splitting.{split-area}
-use Rattle.lct_header.proofs.Layouts.{area_at, view_at, found}
-
--- ---- the answer by computing
-
--- where extensions stop, before the header's end
-abbrev stop_at : ℕ → ViewOf → List ℕ → Result ViewOf HeaderFault
-stop_at end v [] = Ok v
-stop_at end v (het ∷ []) = Err Short
-stop_at end v (het ∷ hel ∷ bytes) =
-    cond (eqb hel 0) (Err (ExtensionZero (end - length (het ∷ hel ∷ bytes)))) (Err (ExtensionLong (end - length (het ∷ hel ∷ bytes))))
-
--- the answer for bytes of version 1, whose first word this is
-abbrev answer_of : List ℕ → FirstWord → Result ViewOf HeaderFault
-answer_of bytes w =
-    cond (ltb (4 * w.words) (fixed_length w) || ltb (length bytes) (4 * w.words)) (Err LengthField)
-    (stop_at (fixed_length w + length (area_at w bytes)) (view_at w bytes) (split (length (area_at w bytes)) (area_at w bytes)).1)
-
--- the answer for all bytes
-pub answer : List ℕ → Result ViewOf HeaderFault
-answer bytes = cond (ltb (length bytes) 4) (Err Short) (cond (eqb (version bytes) 1) (answer_of bytes (word_in bytes)) (Err Version))
+use Rattle.lct_header.proofs.Layouts.{found}
 
 -- ---- it is the answer of the definitions
 
@@ -54,14 +39,14 @@ past_layout bytes w tsi toi area rest laid =
     past_word bytes is.layout.long is.layout.first ∙ ap (answer_of bytes) is.word_is ∙ rw (right, is.tsi_is, is.toi_is, is.area_is) refl
 
 -- a view by its parts
-made : (v : ViewOf) (header : HeaderFields) (n : ℕ) → header ≡ v.header → n ≡ v.length → ◌≡◌ {A = Result ViewOf HeaderFault} (Ok (record { header = header; length = n; area = v.area })) (Ok v)
+made : (v : HeaderView) (header : Header) (n : ℕ) → header ≡ v.header → n ≡ v.length → ◌≡◌ {A = Result HeaderView HeaderFault} (Ok (record { header = header; length = n; area = v.area })) (Ok v)
 made v header n a b = rw (a, b) refl
 
 -- a header that begins the bytes is the answer
-pub answer_view : (bytes : List ℕ) (v : ViewOf) → StartsWithHeader bytes v → answer bytes ≡ Ok v
+pub answer_view : (bytes : List ℕ) (v : HeaderView) → StartsWithHeader bytes v → answer bytes ≡ Ok v
 answer_view bytes v (rest, is) =
     let stops : split (length v.area) (v.area ++ []) ≡ (is.extensions.0, []) = split-area (length v.area) is.extensions.0 v.area [] (omega (arith, length-append v.area [])) is.extensions.1 refl in
-    let none : (split (length v.area) v.area).1 ≡ [] = ap (λ (xs : List ℕ). (split (length v.area) xs).1) (sym (append-nil v.area)) ∙ ap (λ (p : List ExtensionOf × List ℕ). p.1) stops in
+    let none : (split (length v.area) v.area).1 ≡ [] = ap (λ (xs : List ℕ). (split (length v.area) xs).1) (sym (append-nil v.area)) ∙ ap (λ (p : List Extension × List ℕ). p.1) stops in
     past_layout bytes is.word is.tsi is.toi v.area rest is.layout
     ∙ ap (stop_at _ _) none
     ∙ made v (header_of is.word is.tsi is.toi) (4 * is.word.words) (sym is.header) (sym is.length)
@@ -108,10 +93,10 @@ stops : (area : List ℕ) (start at : ℕ) (IsFaulty : List ℕ → Type 0) → 
 stops area start at IsFaulty never is =
     let len : length area ≡ length is.front + length is.faulty = ap length is.joined ∙ length-append is.front is.faulty in
     let same : split (length area) (is.front ++ is.faulty) ≡ (is.before, is.faulty) = split-area (length area) is.before is.front is.faulty (omega (arith, length-append is.front is.faulty)) is.extensions (never is.faulty is.fault) in
-    (ap (λ (xs : List ℕ). (split (length area) xs).1) is.joined ∙ ap (λ (p : List ExtensionOf × List ℕ). p.1) same, omega (arith, is.place))
+    (ap (λ (xs : List ℕ). (split (length area) xs).1) is.joined ∙ ap (λ (p : List Extension × List ℕ). p.1) same, omega (arith, is.place))
 
 -- the answer at an extension of no length
-stop_at-no_length : (end at : ℕ) (v : ViewOf) (faulty : List ℕ) → HasNoLength faulty → end - length faulty ≡ at → stop_at end v faulty ≡ Err (ExtensionZero at)
+stop_at-no_length : (end at : ℕ) (v : HeaderView) (faulty : List ℕ) → HasNoLength faulty → end - length faulty ≡ at → stop_at end v faulty ≡ Err (ExtensionZero at)
 stop_at-no_length end at v [] is place = absurd is
 stop_at-no_length end at v (het ∷ []) is place = absurd is
 stop_at-no_length end at v (het ∷ hel ∷ bytes) is place =
@@ -119,7 +104,7 @@ stop_at-no_length end at v (het ∷ hel ∷ bytes) is place =
     rw (zero_is, place) refl
 
 -- and at one that passes the end
-stop_at-passes_end : (end at : ℕ) (v : ViewOf) (faulty : List ℕ) → PassesEnd faulty → end - length faulty ≡ at → stop_at end v faulty ≡ Err (ExtensionLong at)
+stop_at-passes_end : (end at : ℕ) (v : HeaderView) (faulty : List ℕ) → PassesEnd faulty → end - length faulty ≡ at → stop_at end v faulty ≡ Err (ExtensionLong at)
 stop_at-passes_end end at v [] is place = absurd is
 stop_at-passes_end end at v (het ∷ []) is place = absurd is
 stop_at-passes_end end at v (het ∷ hel ∷ bytes) is place =
@@ -145,10 +130,18 @@ answer_fault bytes (ExtensionLong at) is =
 -- ---- laws
 
 -- what is found or refused is the answer
-pub the_answer : (bytes : List ℕ) (r : Result ViewOf HeaderFault) → IfOk r (λ v. StartsWithHeader bytes v) → IfErr r (λ fault. IsFirstFault bytes fault) → r ≡ answer bytes
+pub the_answer : (bytes : List ℕ) (r : Result HeaderView HeaderFault) → IfOk r (λ v. StartsWithHeader bytes v) → IfErr r (λ fault. IsFirstFault bytes fault) → r ≡ answer bytes
 the_answer bytes (Ok v) starts refused = sym (answer_view bytes v starts)
 the_answer bytes (Err fault) starts refused = sym (answer_fault bytes fault refused)
 
 -- no bytes begin with two headers
-pub one_header : (bytes : List ℕ) (v w : ViewOf) → StartsWithHeader bytes v → StartsWithHeader bytes w → v ≡ w
-one_header bytes v w a b = let same : ◌≡◌ {A = Result ViewOf HeaderFault} (Ok v) (Ok w) = sym (answer_view bytes v a) ∙ answer_view bytes w b in cc
+pub one_header : (bytes : List ℕ) (v w : HeaderView) → StartsWithHeader bytes v → StartsWithHeader bytes w → v ≡ w
+one_header bytes v w a b = let same : ◌≡◌ {A = Result HeaderView HeaderFault} (Ok v) (Ok w) = sym (answer_view bytes v a) ∙ answer_view bytes w b in cc
+
+-- nor with a header where there is a fault
+pub not_both : (bytes : List ℕ) (v : HeaderView) (fault : HeaderFault) → StartsWithHeader bytes v → IsFirstFault bytes fault → ⊥
+not_both bytes v fault a b = let same : ◌≡◌ {A = Result HeaderView HeaderFault} (Ok v) (Err fault) = sym (answer_view bytes v a) ∙ answer_fault bytes fault b in cc
+
+-- and there is one first fault
+pub one_fault : (bytes : List ℕ) (f g : HeaderFault) → IsFirstFault bytes f → IsFirstFault bytes g → f ≡ g
+one_fault bytes f g a b = let same : ◌≡◌ {A = Result HeaderView HeaderFault} (Err f) (Err g) = sym (answer_fault bytes f a) ∙ answer_fault bytes g b in cc

@@ -1,26 +1,13 @@
 -- The pieces of a header at their places.
 use Rattle.std.proofs.Common.{◌≡◌, ℕ, ◌+◌, ◌-◌, ◌*◌, ◌≤◌, List, [], ◌∷◌, ◌++◌, length, take, drop, refl, sym, ap, subst, ◌∙◌, arith}
-use Rattle.std.proofs.lemmas.List.{length-append, length-take, length-drop, take-append-drop, take_at, drop_at, drop-drop}
-use Rattle.lct_header.specs.Word.{FirstWord, SpellsWord, cci_length, tsi_length, fixed_length, version, word_in}
-use Rattle.lct_header.specs.Header.{ViewOf, header_of, IsLaidOut}
-use Rattle.lct_header.proofs.Numbers.{IsBytes}
+use Rattle.std.proofs.lemmas.List.{length-append, take-append-drop, take_at, drop_at, drop-drop}
+use Rattle.wire_bytes.specs.Bytes.{AreBytes}
+use Rattle.wire_bytes.proofs.Public.{cut_at, length_piece}
+use Rattle.lct_header.specs.Word.{FirstWord, SpellsWord, cci_length, tsi_length, fixed_length, version}
+use Rattle.lct_header.specs.HeaderView.{IsLaidOut}
+use Rattle.lct_header.specs.Answer.{tsi_at, toi_at, area_at}
+use Rattle.lct_header.specs.Inner.Word.{word_in}
 use Rattle.lct_header.proofs.Words.{word_again, word_spelled}
-
--- the bytes of the TSI, at their place
-abbrev pub tsi_at : FirstWord → List ℕ → List ℕ
-tsi_at w bytes = take (4 + cci_length w + tsi_length w - (4 + cci_length w)) (drop (4 + cci_length w) bytes)
-
--- and of the TOI
-abbrev pub toi_at : FirstWord → List ℕ → List ℕ
-toi_at w bytes = take (fixed_length w - (4 + cci_length w + tsi_length w)) (drop (4 + cci_length w + tsi_length w) bytes)
-
--- what is left of the header
-abbrev pub area_at : FirstWord → List ℕ → List ℕ
-area_at w bytes = take (4 * w.words - fixed_length w) (drop (fixed_length w) bytes)
-
--- all of it
-abbrev pub view_at : FirstWord → List ℕ → ViewOf
-view_at w bytes = record { header = header_of w (tsi_at w bytes) (toi_at w bytes); length = 4 * w.words; area = area_at w bytes }
 
 -- version 1, and a stated length from that of the fixed fields up to that of the bytes
 pub record HasLayout (bytes : List ℕ) : Type 0 where
@@ -30,25 +17,15 @@ pub record HasLayout (bytes : List ℕ) : Type 0 where
   pub within : 4 * (word_in bytes).words ≤ length bytes
 
 -- the first four bytes spell the word in them
-pub front_spells : (bytes : List ℕ) → 4 ≤ length bytes → IsBytes bytes → version bytes ≡ 1 → SpellsWord (take 4 bytes) (word_in bytes)
-front_spells (b0 ∷ b1 ∷ b2 ∷ b3 ∷ rest) le fits v = word_spelled b0 b1 b2 b3 rest v (fits 1) (fits 2) (fits 3)
+pub front_spells : (bytes : List ℕ) → 4 ≤ length bytes → AreBytes bytes → version bytes ≡ 1 → SpellsWord (take 4 bytes) (word_in bytes)
+front_spells (b0 ∷ b1 ∷ b2 ∷ b3 ∷ rest) le fits v = word_spelled b0 b1 b2 b3 rest v (fits 1 0 (omega arith)) (fits 2 0 (omega arith)) (fits 3 0 (omega arith))
 front_spells (b0 ∷ b1 ∷ b2 ∷ []) le fits v = absurd (omega arith)
 front_spells (b0 ∷ b1 ∷ []) le fits v = absurd (omega arith)
 front_spells (b0 ∷ []) le fits v = absurd (omega arith)
 front_spells [] le fits v = absurd (omega arith)
 
--- the bytes from a place on, cut at the next
-cut : (at next : ℕ) (bytes : List ℕ) → at ≤ next → drop at bytes ≡ take (next - at) (drop at bytes) ++ drop next bytes
-cut at next bytes le =
-    let same : at + (next - at) ≡ next = omega arith in
-    sym (take-append-drop (next - at) (drop at bytes)) ∙ ap (λ (xs : List ℕ). take (next - at) (drop at bytes) ++ xs) (drop-drop (next - at) at bytes ∙ ap (λ (n : ℕ). drop n bytes) same)
-
--- the length of such a piece
-length_cut : (at next : ℕ) (bytes : List ℕ) → at ≤ next → next ≤ length bytes → length (take (next - at) (drop at bytes)) ≡ next - at
-length_cut at next bytes le within = omega (arith, length-take (next - at) (drop at bytes), length-drop at bytes)
-
 -- bytes with a layout are laid out so
-pub laid_out : (bytes : List ℕ) → IsBytes bytes → HasLayout bytes
+pub laid_out : (bytes : List ℕ) → AreBytes bytes → HasLayout bytes
     → let w = word_in bytes in IsLaidOut bytes w (tsi_at w bytes) (toi_at w bytes) (area_at w bytes) (drop (4 * w.words) bytes)
 laid_out bytes fits has =
     let w = word_in bytes in
@@ -58,10 +35,10 @@ laid_out bytes fits has =
     let p4 = 4 * w.words in
     let above : p3 ≤ p4 = has.above in
     let within : p4 ≤ length bytes = has.within in
-    let l1 = length_cut 4 p1 bytes (omega arith) (omega arith) in
-    let l2 = length_cut p1 p2 bytes (omega arith) (omega arith) in
-    let l3 = length_cut p2 p3 bytes (omega arith) (omega arith) in
-    let l4 = length_cut p3 p4 bytes above within in
+    let l1 = length_piece 4 p1 bytes (omega arith) (omega arith) in
+    let l2 = length_piece p1 p2 bytes (omega arith) (omega arith) in
+    let l3 = length_piece p2 p3 bytes (omega arith) (omega arith) in
+    let l4 = length_piece p3 p4 bytes above within in
     record {
       word = take 4 bytes;
       cci = take (p1 - 4) (drop 4 bytes);
@@ -72,10 +49,10 @@ laid_out bytes fits has =
       stated = omega (arith, l4, above);
       joined =
           sym (take-append-drop 4 bytes)
-          ∙ ap (λ (r : List ℕ). take 4 bytes ++ r) (cut 4 p1 bytes (omega arith)
-          ∙ ap (λ (r : List ℕ). take (p1 - 4) (drop 4 bytes) ++ r) (cut p1 p2 bytes (omega arith)
-          ∙ ap (λ (r : List ℕ). tsi_at w bytes ++ r) (cut p2 p3 bytes (omega arith)
-          ∙ ap (λ (r : List ℕ). toi_at w bytes ++ r) (cut p3 p4 bytes above))));
+          ∙ ap (λ (r : List ℕ). take 4 bytes ++ r) (cut_at 4 p1 bytes (omega arith)
+          ∙ ap (λ (r : List ℕ). take (p1 - 4) (drop 4 bytes) ++ r) (cut_at p1 p2 bytes (omega arith)
+          ∙ ap (λ (r : List ℕ). tsi_at w bytes ++ r) (cut_at p2 p3 bytes (omega arith)
+          ∙ ap (λ (r : List ℕ). toi_at w bytes ++ r) (cut_at p3 p4 bytes above))));
     }
 
 -- what is laid out stands at its places

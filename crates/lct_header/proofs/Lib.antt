@@ -1,7 +1,10 @@
+pub mod Numbers
 pub mod Splitting
 pub mod Words
-pub mod Numbers
 pub mod Layouts
-pub mod Answering
+pub mod Views
 pub mod Found
+pub mod Deciding
+pub mod Answering
 pub mod Spelled
+pub mod Public

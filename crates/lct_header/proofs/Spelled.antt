@@ -1,34 +1,29 @@
 -- What is written begins with its header.
-use Rattle.std.proofs.Common.{◌≡◌, ℕ, ◌+◌, ◌*◌, ◌/◌, ◌%◌, ◌^◌, ◌<◌, ◌≤◌, List, [], ◌∷◌, ◌++◌, length, refl, sym, ap, ◌∙◌, append_assoc, arith}
-use Rattle.std.proofs.lemmas.List.{append-nil}
-use Rattle.byteorder.specs.Endian.{big_number, big_bytes}
-use Rattle.byteorder.specs.Numbers.{big_number-reads_back, length-bytes_high_first}
+use Rattle.std.proofs.Common.{◌≡◌, ℕ, ◌+◌, ◌*◌, ◌/◌, ◌%◌, ◌≤◌, List, [], ◌∷◌, ◌++◌, length, refl, ◌∙◌, append_assoc, arith}
+use Rattle.byteorder.specs.Endian.{big_bytes}
+use Rattle.byteorder.specs.Numbers.{length-bytes_high_first}
+use Rattle.wire_bytes.proofs.Public.{number_again}
 use Rattle.lct_header.specs.Extensions.{IsArea}
 use Rattle.lct_header.specs.Word.{FitsWord, word_bytes, tsi_length, toi_length}
-use Rattle.lct_header.specs.Header.{HeaderFields, IsHeader, BeginsWithHeader, word_of, written_length, spelling}
+use Rattle.lct_header.specs.Header.{Header, IsHeader}
+use Rattle.lct_header.specs.HeaderView.{BeginsWithHeader}
+use Rattle.lct_header.specs.Spelling.{word_of, written_length, spelling}
 use Rattle.lct_header.proofs.Numbers.{fits_bytes}
 use Rattle.lct_header.proofs.Splitting.{area_words}
 
--- a number is read from its bytes
-number_again : (n x : ℕ) → x < 256 ^ n → big_number (length (big_bytes n x)) (big_bytes n x) ≡ x
-number_again n x lt =
-    ap (λ (k : ℕ). big_number k (big_bytes n x)) (length-bytes_high_first n x)
-    ∙ ap (big_number n) (sym (append-nil (big_bytes n x)))
-    ∙ big_number-reads_back n x [] lt
-
 -- a header by its parts
-made : (h : HeaderFields) (tsi tsi_bits toi toi_bits : ℕ) → tsi ≡ h.tsi → tsi_bits ≡ h.tsi_bits → toi ≡ h.toi → toi_bits ≡ h.toi_bits
-    → ◌≡◌ {A = HeaderFields} h (record { close_session = h.close_session; close_object = h.close_object; tsi = tsi; tsi_bits = tsi_bits; toi = toi; toi_bits = toi_bits; codepoint = h.codepoint })
+made : (h : Header) (tsi tsi_bits toi toi_bits : ℕ) → tsi ≡ h.tsi → tsi_bits ≡ h.tsi_bits → toi ≡ h.toi → toi_bits ≡ h.toi_bits
+    → ◌≡◌ {A = Header} h (record { close_session = h.close_session; close_object = h.close_object; tsi = tsi; tsi_bits = tsi_bits; toi = toi; toi_bits = toi_bits; codepoint = h.codepoint })
 made h tsi tsi_bits toi toi_bits a b d e = rw (a, b, d, e) refl
 
 -- the lengths that the written word states
-record HasWidths (h : HeaderFields) (area : ℕ) : Type 0 where
+record HasWidths (h : Header) (area : ℕ) : Type 0 where
   pub tsi : h.tsi_bits / 8 ≡ tsi_length (word_of h area)
   pub toi : h.toi_bits / 8 ≡ toi_length (word_of h area)
   pub all : 8 + h.tsi_bits / 8 + h.toi_bits / 8 + area ≡ 4 * (word_of h area).words
 
 -- which are those of its fields
-widths : (h : HeaderFields) (area : ℕ) → IsHeader h → area % 4 ≡ 0 → HasWidths h area
+widths : (h : Header) (area : ℕ) → IsHeader h → area % 4 ≡ 0 → HasWidths h area
 widths h area is words = record {
   tsi = omega (arith, is.tsi_halves);
   toi = omega (arith, is.toi_halves, is.same_half, is.tsi_halves);
@@ -36,7 +31,7 @@ widths h area is words = record {
 }
 
 -- each field of the written word fits its bits
-written_word : (h : HeaderFields) (area : ℕ) → IsHeader h → 8 + h.tsi_bits / 8 + h.toi_bits / 8 + area ≤ 1020 → FitsWord (word_of h area)
+written_word : (h : Header) (area : ℕ) → IsHeader h → 8 + h.tsi_bits / 8 + h.toi_bits / 8 + area ≤ 1020 → FitsWord (word_of h area)
 written_word h area is most = record {
   c = omega arith;
   s = omega (arith, is.tsi_bits);
@@ -47,7 +42,7 @@ written_word h area is most = record {
 }
 
 -- what is written begins with the header and the area
-pub written_is_read : (h : HeaderFields) (area rest : List ℕ) → IsHeader h → IsArea area → written_length h area ≤ 1020
+pub written_is_read : (h : Header) (area rest : List ℕ) → IsHeader h → IsArea area → written_length h area ≤ 1020
     → BeginsWithHeader (spelling h area ++ rest) (record { header = h; length = written_length h area; area = area }) rest
 unfolding spelling
 written_is_read h area rest is are most =

@@ -1,7 +1,8 @@
 -- The first word as bytes.
 use Rattle.std.proofs.Common.{◌≡◌, ℕ, zero, suc, ◌+◌, ◌*◌, ◌/◌, ◌%◌, ◌<◌, Bool, true, false, List, [], ◌∷◌, ◌++◌, refl, sym, ap, subst, ◌∙◌, arith}
 use Rattle.std.specs.Prelude.{◌==◌}
-use Rattle.lct_header.specs.Word.{FirstWord, SpellsWord, bit, byte_0, byte_1, version, word_in}
+use Rattle.lct_header.specs.Word.{FirstWord, SpellsWord, bit, byte_0, byte_1, version}
+use Rattle.lct_header.specs.Inner.Word.{word_in}
 
 -- a bit is 0 or 1
 bit_fits : (flag : Bool) → bit flag < 2

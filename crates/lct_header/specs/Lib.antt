@@ -1,4 +1,9 @@
-pub mod Extensions
 pub mod Word
+pub mod Extension
+pub mod Extensions
 pub mod Header
+pub mod HeaderView
+pub mod Spelling
 pub mod Faults
+pub mod Answer
+pub mod Inner

@@ -1,5 +1,5 @@
 -- The first word of a header (RFC 5651, section 5.1).
-use Rattle.std.specs.Prelude.{◌≡◌, ℕ, ◌+◌, ◌*◌, ◌/◌, ◌%◌, ◌<◌, ◌==◌, Bool, if◌then◌else◌, List, [], ◌∷◌, slice_index}
+use Rattle.std.specs.Prelude.{◌≡◌, ℕ, ◌+◌, ◌*◌, ◌/◌, ◌<◌, Bool, if◌then◌else◌, List, [], ◌∷◌, slice_index}
 
 -- What the first word says: the bits C, S, O and H, on which the lengths of CCI, TSI and TOI stand, the flags
 -- A (close session) and B (close object), the header's length in words (HDR_LEN) and the codepoint.
@@ -60,20 +60,6 @@ toi_length w = 4 * w.o + 2 * w.h
 abbrev pub fixed_length : FirstWord → ℕ
 fixed_length w = 4 + cci_length w + tsi_length w + toi_length w
 
--- ---- the same by computing
-
 -- V: the upper four bits of the first byte
 abbrev pub version : List ℕ → ℕ
 version bytes = slice_index bytes 0 / 16
-
-abbrev pub word_in : List ℕ → FirstWord
-word_in bytes = record {
-  c = slice_index bytes 0 / 4 % 4;
-  s = slice_index bytes 1 / 128;
-  o = slice_index bytes 1 / 32 % 4;
-  h = slice_index bytes 1 / 16 % 2;
-  close_session = slice_index bytes 1 / 2 % 2 == 1;
-  close_object = slice_index bytes 1 % 2 == 1;
-  words = slice_index bytes 2;
-  codepoint = slice_index bytes 3;
-}

@@ -3,7 +3,7 @@
 ghost use Rattle.std.specs.Prelude.{◌≡◌, ◌%◌, ◌^◌, ◌+◌, ◌<◌, ◌==◌, if◌then◌else◌, length, MatchOption};
 ghost use Rattle.std.specs.Iterator.{YieldsFirst, item_count};
 ghost use Rattle.lct_header.specs.Extensions.{IsArea};
-ghost use Rattle.lct_header.specs.Faults.{IsAreaFault};
+ghost use Rattle.lct_header.specs.Inner.Faults.{IsAreaFault};
 
 use crate::extension::{Extension, split_first};
 use crate::fault::HeaderFault;
@@ -17,9 +17,11 @@ pub struct Extensions<'a> {
 
 impl<'a> Model for Extensions<'a> {
     ghost use Rattle.std.specs.Prelude.{List};
-    ghost use Rattle.lct_header.specs.Extensions.{ExtensionOf, IsArea, extensions_in};
+    ghost use Rattle.lct_header.specs.Extension.{Extension};
+    ghost use Rattle.lct_header.specs.Extensions.{IsArea};
+    ghost use Rattle.lct_header.specs.Inner.Extensions.{extensions_in};
 
-    ghost Value = { List ExtensionOf };
+    ghost Value = { List Extension };
 
     ghost view = { λ a. extensions_in a.rest.now };
 

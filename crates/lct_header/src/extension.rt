@@ -13,7 +13,7 @@
 //! ```
 
 ghost use Rattle.std.specs.Prelude.{◌≡◌, option_map};
-ghost use Rattle.lct_header.specs.Extensions.{first_of, measured};
+ghost use Rattle.lct_header.specs.Inner.Extensions.{first_of, measured};
 
 use std::marker::Model;
 
@@ -30,9 +30,9 @@ pub struct Extension<'a> {
 }
 
 impl<'a> Model for Extension<'a> {
-    ghost use Rattle.lct_header.specs.Extensions.{ExtensionOf};
+    ghost use Rattle.lct_header.specs.Extension.{Extension};
 
-    ghost Value = { ExtensionOf };
+    ghost Value = { Extension };
 
     ghost view = { λ a. record { het = a.het; content = a.content.now } };
 }

@@ -28,9 +28,9 @@ pub struct Header {
 }
 
 impl Model for Header {
-    ghost use Rattle.lct_header.specs.Header.{HeaderFields, IsHeader};
+    ghost use Rattle.lct_header.specs.Header.{Header, IsHeader};
 
-    ghost Value = { HeaderFields };
+    ghost Value = { Header };
 
     ghost view = { λ a. record { close_session = a.close_session; close_object = a.close_object; tsi = a.tsi; tsi_bits = a.tsi_bits; toi = a.toi; toi_bits = a.toi_bits; codepoint = a.codepoint } };
 
@@ -40,7 +40,8 @@ impl Model for Header {
 }
 
 /// A header that was read, with the bytes of its extensions. Its type keeps that the area is a list of extensions
-/// without a fault, and that the length is one of whole words, at most 1,020, and no less than the area's.
+/// without a fault, and that the length is that of the first word, one to four words of CCI, the numbers and the area,
+/// at most 1,020.
 #[derive(Debug, Drop)]
 pub struct HeaderView<'a> {
     pub header: Header,
@@ -51,9 +52,9 @@ pub struct HeaderView<'a> {
 }
 
 impl<'a> Model for HeaderView<'a> {
-    ghost use Rattle.lct_header.specs.Header.{ViewOf, IsView};
+    ghost use Rattle.lct_header.specs.HeaderView.{HeaderView, IsView};
 
-    ghost Value = { ViewOf };
+    ghost Value = { HeaderView };
 
     ghost view = { λ a. record { header = a.header; length = a.length; area = a.area.now } };
 

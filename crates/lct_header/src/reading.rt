@@ -4,7 +4,8 @@ ghost use Rattle.std.specs.Prelude.{◌≡◌, ◌≤◌, IfOk, IfErr, Ok, Err, 
 ghost use Rattle.byteorder.specs.Endian.{big_number};
 ghost use Rattle.lct_header.specs.declared.fault.HeaderFault.{HeaderFault};
 ghost use Rattle.lct_header.specs.Word.{tsi_length, toi_length};
-ghost use Rattle.lct_header.specs.Header.{ViewOf, StartsWithHeader, header_of};
+ghost use Rattle.lct_header.specs.Header.{header_of};
+ghost use Rattle.lct_header.specs.HeaderView.{HeaderView, StartsWithHeader};
 ghost use Rattle.lct_header.specs.Faults.{IsFirstFault};
 
 use crate::area::first_fault;
@@ -39,7 +40,7 @@ pub fn read(bytes: &[u8]) -> Result<HeaderView<'_>, HeaderFault>
     // What is read begins the bytes.
     ensures found { IfOk result (λ view. StartsWithHeader bytes.now view) }
     // What begins the bytes is read.
-    ensures only { (view : ViewOf) → StartsWithHeader bytes.now view → result ≡ Ok view }
+    ensures only { (view : HeaderView) → StartsWithHeader bytes.now view → result ≡ Ok view }
     // The fault is the first that holds.
     ensures refused { IfErr result (λ fault. IsFirstFault bytes.now fault) }
     // Bytes with a fault are refused.

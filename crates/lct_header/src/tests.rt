@@ -167,6 +167,18 @@ fn every_width_is_written_and_read(rt: HostRuntime) -> Result<(), Fail> {
     Ok(())
 }
 
+#[test]
+fn longest_header_is_written(rt: HostRuntime) -> Result<(), Fail> {
+    // No TSI, no TOI, and one extension of 253 words.
+    let mut bytes = [7u8; 1020];
+    bytes[..10].copy_from_slice(&[0x10, 0, 255, 9, 0, 0, 0, 0, 0x40, 253]);
+    let view = read(&bytes).ok().ok_or("the longest header")?;
+    assert_eq!(rt; view.length, 1020);
+    assert_eq!(rt; view.area.len(), 1012);
+    assert_eq!(rt; written(rt.alloc(), &view)?.as_slice(), bytes.as_slice());
+    Ok(())
+}
+
 /// The view's header and area, written again.
 fn written(alloc: Global, view: &HeaderView<'_>) -> Result<Vec<u8>, AllocError> {
     let header = view.header;

@@ -9,7 +9,8 @@
 //! ```
 
 ghost use Rattle.std.specs.Prelude.{◌≡◌, ◌≤◌, ◌*◌, length};
-ghost use Rattle.lct_header.specs.Word.{word_in, word_bytes, tsi_length, toi_length, cci_length};
+ghost use Rattle.lct_header.specs.Word.{word_bytes, tsi_length, toi_length, cci_length};
+ghost use Rattle.lct_header.specs.Inner.Word.{word_in};
 
 use std::marker::Model;
 

@@ -3,7 +3,8 @@
 ghost use Rattle.std.specs.Prelude.{◌≡◌, ℕ, ◌≤◌, ◌<◌, ◌+◌, ◌/◌, ◌^◌, ◌++◌, IfOk, OnOk, List, length};
 ghost use Rattle.byteorder.specs.Endian.{big_bytes};
 ghost use Rattle.lct_header.specs.Extensions.{IsArea};
-ghost use Rattle.lct_header.specs.Header.{StartsWithHeader, word_of, written_length, spelling};
+ghost use Rattle.lct_header.specs.HeaderView.{StartsWithHeader};
+ghost use Rattle.lct_header.specs.Spelling.{word_of, written_length, spelling};
 
 use crate::header::Header;
 use crate::word::FirstWord;
@@ -15,7 +16,7 @@ const CONGESTION_CONTROL: [u8; 4] = [0; 4];
 
 /// Writes a header with the widths of its numbers and with these extensions. C, PSI, CCI and the reserved bits are
 /// zero.
-#[tactic(auto, unfolding(crate::specs::Header::spelling))]
+#[tactic(auto, unfolding(crate::specs::Spelling::spelling))]
 pub fn write(alloc: Global, header: &Header, area: &[u8]) -> Result<Vec<u8>, AllocError>
     requires extensions { IsArea area.now }
     requires room { written_length header.now area.now ≤ 1020 }

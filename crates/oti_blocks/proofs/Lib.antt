@@ -1,5 +1,5 @@
-pub mod Bytes
 pub mod Quotients
 pub mod Sizes
 pub mod Soundness
 pub mod Spelling
+pub mod Public

@@ -5,8 +5,8 @@ use Rattle.std.proofs.lemmas.List.{length-append, length-replicate, take-replica
 use Rattle.std.proofs.lemmas.List.Sums.{sum_by-append, sum_by_more, sum_by_more_le}
 use Rattle.std.proofs.lemmas.List.Folds.{sum_by-replicate}
 use Rattle.std.proofs.Math.Seq.{take-append-add, take-length}
-use Rattle.oti_blocks.specs.Partition.{ObjectInformation, IsSound, sources, blocks, large, small, large_count, sizes, size_at, start_at, HasSource}
-use Rattle.oti_blocks.proofs.Quotients.{sources_le, sources_split, small_pos, small_le_large, large_le}
+use Rattle.oti_blocks.specs.Partition.{ObjectInformation, IsSound, sources, blocks, large, small, large_count, sizes, size_at, start_at, encoding_at, HasSource}
+use Rattle.oti_blocks.proofs.Quotients.{sources_le, sources_split, small_pos, small_le_large, large_le, encoding_bounds}
 
 -- I blocks of one source symbol more
 total_of : (i rest a : ℕ) → suc i * (a + 1) + rest * a ≡ a * (suc i + rest) + suc i
@@ -61,6 +61,10 @@ size_bounds o sound b lt =
       | inr back ↦ (omega (arith, size_back o b back lt, some), omega (arith, size_back o b back lt, order, most))
     ]
 
+-- and encoding symbols, at least as many and not too many
+pub encoding_at_bounds : (o : ObjectInformation) → IsSound o → (b : ℕ) → b < blocks o → (size_at o b ≤ encoding_at o b) × (encoding_at o b ≤ o.max_n)
+encoding_at_bounds o sound b lt = encoding_bounds o sound (size_at o b) (size_bounds o sound b lt).1
+
 -- the start of a larger block, and of the first smaller one
 pub start_front : (o : ObjectInformation) (b : ℕ) → b ≤ large_count o → start_at o b ≡ b * large o
 unfolding sizes
@@ -89,6 +93,10 @@ start_back o b ge le =
 -- where the next block starts
 pub start-next : (o : ObjectInformation) → IsSound o → (b : ℕ) → b < blocks o → start_at o (b + 1) ≡ start_at o b + size_at o b
 start-next o sound b lt = sum_by_more (λ n. n) (sizes o) b 0 (omega (arith, length-sizes o sound))
+
+-- behind the last block all source symbols are
+pub start_last : (o : ObjectInformation) → IsSound o → start_at o (blocks o) ≡ sources o
+start_last o sound = ap (λ n. sum (take n (sizes o))) (sym (length-sizes o sound)) ∙ ap sum (take-length (sizes o)) ∙ sum-sizes o sound
 
 -- no block ends past the object
 pub block_end : (o : ObjectInformation) → IsSound o → (b : ℕ) → b < blocks o → start_at o b + size_at o b ≤ sources o
@@ -128,7 +136,7 @@ found_below o sound s (suc n) le lt =
 -- each source symbol is in a block
 pub found : (o : ObjectInformation) → IsSound o → (s : ℕ) → s < sources o → (b : ℕ) × HasSource o b s
 found o sound s lt =
-    let whole : start_at o (blocks o) ≡ sources o = ap (λ n. sum (take n (sizes o))) (sym (length-sizes o sound)) ∙ ap sum (take-length (sizes o)) ∙ sum-sizes o sound in
+    let whole : start_at o (blocks o) ≡ sources o = start_last o sound in
     found_below o sound s (blocks o) (omega arith) (omega (arith, whole, lt))
 
 -- and in no other

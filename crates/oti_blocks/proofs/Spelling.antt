@@ -1,16 +1,18 @@
 -- The ten bytes of transmission information and the values in them.
-use Rattle.std.proofs.Common.{◌≡◌, ℕ, ◌+◌, ◌%◌, ◌<◌, List, [], ◌∷◌, ◌++◌, length, get_or, take, drop, drop-cons, Option, Some, None, Ok, refl, sym, ap, ◌∙◌, arith}
+use Rattle.std.proofs.Common.{◌≡◌, ℕ, ◌%◌, List, [], ◌∷◌, ◌++◌, length, get_or, take, drop, drop-cons, Option, Some, None, Ok, refl, sym, ap, ◌∙◌, arith}
 use Rattle.std.specs.Prelude.{IfOk}
 use Rattle.std.proofs.Math.Nat.{mod-eq_of_lt}
-use Rattle.std.proofs.lemmas.List.{append_assoc, take-append-drop, drop-drop, drop_all, get_or-drop, get_or-take, drop-take, length-drop}
+use Rattle.std.proofs.lemmas.List.{append_assoc, take-append-drop, drop-drop, drop_all, get_or-take, drop-take, length-drop}
 use Rattle.byteorder.specs.Endian.{big_number, big_bytes}
-use Rattle.byteorder.specs.Numbers.{big_from-take, big_number-reads_back}
+use Rattle.byteorder.specs.Numbers.{big_from-lt, big_from-take, big_number-reads_back}
+use Rattle.wire_bytes.specs.Bytes.{AreBytes}
+use Rattle.wire_bytes.specs.FirstFault.{unless_fault}
+use Rattle.wire_bytes.proofs.Public.{big_bytes-big_number, bytes_drop, byte_at_place, one_byte}
 use Rattle.oti_blocks.specs.Partition.{ObjectInformation, IsSound}
 use Rattle.oti_blocks.specs.Wire.{fti_content, stated}
-use Rattle.oti_blocks.specs.Faults.{first_fault, first_fti_fault, unless_fault}
+use Rattle.oti_blocks.specs.Faults.{information_fault, fti_fault}
 use Rattle.oti_blocks.specs.declared.fault.OtiFault.{OtiFault}
-use Rattle.oti_blocks.proofs.Soundness.{no_fault_from_sound}
-use Rattle.oti_blocks.proofs.Bytes.{IsBytes, big_bytes-big_number}
+use Rattle.oti_blocks.proofs.Soundness.{HasWidths, no_fault_from_sound}
 
 -- information by its parts
 made : (o : ObjectInformation) (length symbol max_block max_n : ℕ) → length ≡ o.length → symbol ≡ o.symbol → max_block ≡ o.max_block → max_n ≡ o.max_n
@@ -36,10 +38,6 @@ stated-take content =
 joined : (a b c d a' b' c' d' : List ℕ) → a ≡ a' → b ≡ b' → c ≡ c' → d ≡ d' → a ++ b ++ c ++ d ≡ a' ++ b' ++ c' ++ d'
 joined a b c d a' b' c' d' p q r s = rw (p, q, r, s) refl
 
--- the byte of a number of one byte
-pub one_byte : (x : ℕ) → x < 256 → big_bytes 1 x ≡ x ∷ []
-one_byte x lt = ap (λ (y : ℕ). y ∷ []) (mod-eq_of_lt lt)
-
 -- ten bytes in pieces
 ten : (content : List ℕ) → length content ≡ 10 → take 6 content ++ take 2 (drop 6 content) ++ (get_or content 8 0 ∷ []) ++ (get_or content 9 0 ∷ []) ≡ content
 ten content len =
@@ -54,23 +52,34 @@ ten content len =
     ∙ take-append-drop 6 content
 
 -- the bytes are spelled again
-pub fti_content-stated : (content : List ℕ) → length content ≡ 10 → IsBytes content → fti_content (stated content) ≡ content
+pub fti_content-stated : (content : List ℕ) → length content ≡ 10 → AreBytes content → fti_content (stated content) ≡ content
 fti_content-stated content len fits =
-    let behind : IsBytes (drop 6 content) = λ i. rw get_or-drop (fits (6 + i)) in
     joined _ _ _ _ _ _ _ _
     (big_bytes-big_number 6 content (omega arith) fits)
-    (big_bytes-big_number 2 (drop 6 content) (omega (arith, length-drop 6 content)) behind)
-    (one_byte (get_or content 8 0) (fits 8))
-    (one_byte (get_or content 9 0) (fits 9))
+    (big_bytes-big_number 2 (drop 6 content) (omega (arith, length-drop 6 content)) (bytes_drop 6 content fits))
+    (one_byte (get_or content 8 0) (byte_at_place content fits 8))
+    (one_byte (get_or content 9 0) (byte_at_place content fits 9))
     ∙ ten content len
 
+-- the values in bytes fit their fields
+pub stated-widths : (content : List ℕ) → AreBytes content → HasWidths (stated content)
+stated-widths content fits = record {
+  length = big_from-lt 0 6 content (byte_at_place content fits);
+  symbol = big_from-lt 0 2 (drop 6 content) (byte_at_place (drop 6 content) (bytes_drop 6 content fits));
+  max_n = byte_at_place content fits 9;
+}
+
 -- what is read is spelled so
-pub spelled : (content : List ℕ) → length content ≡ 10 → IsBytes content → (fault : Option OtiFault) → IfOk (unless_fault fault (stated content)) (λ o. content ≡ fti_content o)
+pub spelled : (content : List ℕ) → length content ≡ 10 → AreBytes content → (fault : Option OtiFault) → IfOk (unless_fault fault (stated content)) (λ o. content ≡ fti_content o)
 spelled content len fits None = sym (fti_content-stated content len fits)
 spelled content len fits (Some fault) = tt
 
--- what is spelled so is read
-pub read_again : (o : ObjectInformation) → IsSound o → unless_fault (first_fti_fault (fti_content o)) (stated (fti_content o)) ≡ Ok o
+-- what is spelled so has no fault
+pub no_fti_fault : (o : ObjectInformation) → IsSound o → fti_fault (fti_content o) ≡ None
+no_fti_fault o sound = ap information_fault (stated-fti_content o [] sound) ∙ no_fault_from_sound o sound
+
+-- and is read
+pub read_again : (o : ObjectInformation) → IsSound o → unless_fault (fti_fault (fti_content o)) (stated (fti_content o)) ≡ Ok o
 read_again o sound =
-    ap (λ (p : ObjectInformation). unless_fault (first_fault p) p) (stated-fti_content o [] sound)
-    ∙ ap (λ (fault : Option OtiFault). unless_fault fault o) (no_fault_from_sound o sound)
+    ap (λ (fault : Option OtiFault). unless_fault fault (stated (fti_content o))) (no_fti_fault o sound)
+    ∙ ap (λ (p : ObjectInformation). Ok p) (stated-fti_content o [] sound)

@@ -1,29 +1,29 @@
 -- What is wrong with stated transmission information: the first of the faults that hold.
-use Rattle.std.specs.Prelude.{ℕ, ◌^◌, List, length, Option, Some, None, Result, Ok, Err, not, ◌==◌, nat_lt, if◌then◌else◌}
+use Rattle.std.specs.Prelude.{ℕ, ◌^◌, List, [], ◌∷◌, length, Option, Result, not, ◌==◌, nat_lt}
+use Rattle.wire_bytes.specs.FirstFault.{fault_when, first_fault, unless_fault}
 use Rattle.oti_blocks.specs.Partition.{ObjectInformation, blocks}
 use Rattle.oti_blocks.specs.Wire.{stated}
 use Rattle.oti_blocks.specs.declared.fault.OtiFault.{OtiFault}
 use Rattle.oti_blocks.specs.declared.fault.OtiFault.TheVariants.{FtiLength, ZeroSymbol, ZeroBlock, MaxN, ShortObject, TooManyBlocks}
 
--- of stated values
-abbrev pub first_fault : ObjectInformation → Option OtiFault
-first_fault o =
-    if o.symbol == 0 then Some ZeroSymbol else
-    if o.max_block == 0 then Some ZeroBlock else
-    if nat_lt o.max_n o.max_block then Some MaxN else
-    if nat_lt o.length 8 then Some ShortObject else
-    if nat_lt (2 ^ 24) (blocks o) then Some TooManyBlocks else None
+-- the faults that stated values can have, in order
+abbrev pub information_faults : ObjectInformation → List (Option OtiFault)
+information_faults o =
+    fault_when (o.symbol == 0) ZeroSymbol
+    ∷ fault_when (o.max_block == 0) ZeroBlock
+    ∷ fault_when (nat_lt o.max_n o.max_block) MaxN
+    ∷ fault_when (nat_lt o.length 8) ShortObject
+    ∷ fault_when (nat_lt (2 ^ 24) (blocks o)) TooManyBlocks
+    ∷ []
 
--- of the content of an EXT_FTI
-abbrev pub first_fti_fault : List ℕ → Option OtiFault
-first_fti_fault content =
-    if not (length content == 10) then Some (FtiLength (length content)) else first_fault (stated content)
+-- the fault of stated values
+abbrev pub information_fault : ObjectInformation → Option OtiFault
+information_fault o = first_fault (information_faults o)
 
--- the values, unless there is a fault
-abbrev pub unless_fault : Option OtiFault → ObjectInformation → Result ObjectInformation OtiFault
-unless_fault None o = Ok o
-unless_fault (Some fault) o = Err fault
+-- the fault of the content of an EXT_FTI
+abbrev pub fti_fault : List ℕ → Option OtiFault
+fti_fault content = first_fault (fault_when (not (length content == 10)) (FtiLength (length content)) ∷ information_faults (stated content))
 
 -- the values, or their first fault
 abbrev pub checked : ObjectInformation → Result ObjectInformation OtiFault
-checked o = unless_fault (first_fault o) o
+checked o = unless_fault (information_fault o) o

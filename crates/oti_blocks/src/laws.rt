@@ -1,7 +1,7 @@
 //! Laws of the partition. They speak of the definitions alone.
 
 ghost use Rattle.std.specs.Prelude.{◌≡◌, ℕ, ◌+◌, ◌<◌, ◌≤◌, length, sum};
-ghost use Rattle.oti_blocks.specs.Partition.{ObjectInformation, IsSound, HasSource, sources, blocks, sizes, size_at, start_at};
+ghost use Rattle.oti_blocks.specs.Partition.{ObjectInformation, IsSound, HasSource, sources, blocks, sizes, size_at, start_at, encoding_at};
 
 /// There are as many sizes as blocks, at least one and no more than source symbols.
 pub fn one_size_a_block()
@@ -30,4 +30,15 @@ pub fn blocks_follow_each_other()
 pub fn one_block_a_source()
     ensures found { (o : ObjectInformation) → IsSound o → (s : ℕ) → s < sources o → (b : ℕ) × HasSource o b s }
     ensures alone { (o : ObjectInformation) → IsSound o → (s b c : ℕ) → HasSource o b s → HasSource o c s → c ≡ b }
+{}
+
+/// No block ends past the object: the number of each of its source symbols is below that of all.
+pub fn blocks_end_within()
+    ensures { (o : ObjectInformation) → IsSound o → (b : ℕ) → b < blocks o → start_at o b + size_at o b ≤ sources o }
+{}
+
+/// A block has at least its source symbols as encoding symbols, and at most as many as stated.
+pub fn encoding_is_bounded()
+    ensures least { (o : ObjectInformation) → IsSound o → (b : ℕ) → b < blocks o → size_at o b ≤ encoding_at o b }
+    ensures most { (o : ObjectInformation) → IsSound o → (b : ℕ) → b < blocks o → encoding_at o b ≤ o.max_n }
 {}

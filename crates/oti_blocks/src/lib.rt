@@ -10,7 +10,7 @@ mod wire;
 
 pub use fault::OtiFault;
 pub use information::Oti;
-pub use wire::read_fti;
+pub use wire::{FTI_START, FTI_TYPE, read_fti};
 
 #[cfg(test)]
 mod tests;

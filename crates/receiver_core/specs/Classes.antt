@@ -3,7 +3,7 @@ use Rattle.std.specs.Prelude.{ℕ, ◌==◌, Bool, true, false, nat_le, if◌the
 use Rattle.oti_blocks.specs.Partition.{size_at}
 use Rattle.alc_packet.specs.Packet.{SymbolPacket}
 use Rattle.alc_packet.specs.FirstForm.{reading}
-use Rattle.alc_packet.specs.declared.datagram.Refusal.TheVariants as refusals
+use Rattle.alc_packet.specs.declared.first_form.NotYet.TheVariants as not_yet
 use Rattle.receiver_core.specs.declared.taken.Kept.{Kept}
 use Rattle.receiver_core.specs.declared.taken.Kept.TheVariants as kept
 use Rattle.receiver_core.specs.declared.taken.Taken.{Taken}
@@ -28,7 +28,7 @@ taken_packet tsi budget held p =
     if p.tsi == tsi then taken.Packet p.toi p.sbn p.esi (kept_of held p (verdict budget held p)) else taken.Elsewhere p.tsi
 
 abbrev pub taken_reading : ℕ → ℕ → Held → Option SymbolPacket → Taken
-taken_reading tsi budget held None = taken.Refused refusals.NotYet
+taken_reading tsi budget held None = taken.Refused not_yet.OtherForm
 taken_reading tsi budget held (Some p) = taken_packet tsi budget held p
 
 -- the answer to a datagram, of a receiver of this session with this budget that holds this

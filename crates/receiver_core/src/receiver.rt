@@ -74,7 +74,7 @@ impl Receiver {
         ensures err { OnErr result (self.new ≡ self.old) }
         ensures no_memory { is_new (taken_of self.old.tsi self.old.budget self.old.held datagram.now) ≡ false → IsOk result }
     {
-        match alc_packet::read(datagram) {
+        match alc_packet::read_first_form(datagram) {
             Err(refusal) => Ok(Taken::Refused(refusal)),
             Ok(Datagram::Control { close, .. }) => Ok(Taken::Control { close }),
             Ok(Datagram::Symbol(packet)) => self.take_packet(&packet),

@@ -1,4 +1,4 @@
-use alc_packet::Refusal;
+use alc_packet::NotYet;
 
 /// What became of a packet of the receiver's session.
 #[derive(Clone, Copy, PartialEq, Eq, Debug)]
@@ -16,7 +16,7 @@ pub enum Kept {
 #[derive(Clone, Copy, PartialEq, Eq, Debug)]
 pub enum Taken {
     /// It is no packet.
-    Refused(Refusal),
+    Refused(NotYet),
     /// It belongs to this other session.
     Elsewhere {
         tsi: u64,

@@ -1,5 +1,5 @@
 use super::*;
-use alc_packet::Refusal;
+use alc_packet::NotYet;
 use std::alloc::{AllocError, Global};
 use std::process::Abort;
 use std::test::*;
@@ -105,7 +105,7 @@ fn one_descriptor(rt: HostRuntime) -> Result<(), Fail> {
     let steps = [
         Step {
             datagram: with(&datagram, 2, 3),
-            taken: Taken::Refused(Refusal::NotYet),
+            taken: Taken::Refused(NotYet::OtherForm),
             number: None,
             installed: None,
         },

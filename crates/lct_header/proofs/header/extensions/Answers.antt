@@ -11,4 +11,4 @@ pub returns-clause-few : goal.returns-clause-few
 returns-clause-few c =
     let is = c.view.invariant.extensions in
     let count = area_count is.0 c.view.inside.area.now is.1 in
-    rw (extensions_in-area c.view.inside.area.now is.0 is.1) (omega (arith, count, c.view.invariant.within, c.view.invariant.most))
+    rw (extensions_in-area c.view.inside.area.now is.0 is.1) (omega (arith, count, c.view.invariant.whole, c.view.invariant.most))

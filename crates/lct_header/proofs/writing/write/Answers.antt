@@ -1,6 +1,8 @@
 use Rattle.std.proofs.Common.{◌≡◌, ◌++◌, List, ℕ, sym, subst, arith}
 use Rattle.std.proofs.lemmas.Grind.{common_steps}
-use Rattle.lct_header.specs.Header.{IsHeader, StartsWithHeader, written_length, spelling}
+use Rattle.lct_header.specs.Header.{IsHeader}
+use Rattle.lct_header.specs.HeaderView.{StartsWithHeader}
+use Rattle.lct_header.specs.Spelling.{written_length, spelling}
 use Rattle.lct_header.proofs.Numbers.{fits_bytes}
 use Rattle.lct_header.proofs.Spelled.{written_is_read}
 use Rattle.lct_header.proofs.writing.write.Goals as goal
