@@ -8,8 +8,8 @@ use Rattle.std.proofs.lemmas.Slice.Eq.{bytes_eq-Decides}
 use Rattle.meta_text.specs.Fields.{written}
 use Rattle.compound_object.specs.Checksum.{checksum}
 use Rattle.compound_object.specs.Object.{layout, first_byte}
-use Rattle.carousel_cid.specs.Carousel.{number_name, empty_descriptor, stated_number, number_in, described, IsEmptyDescriptor}
-use Rattle.carousel_cid.specs.declared.kind.Kind.TheVariants.{Descriptor}
+use Rattle.carousel_cid.specs.EmptyDescriptor.{number_name, empty_descriptor, stated_number, number_in, described, IsEmptyDescriptor}
+use Rattle.carousel_cid.specs.declared.empty.EmptyKind.TheVariants.{Descriptor}
 use Rattle.carousel_cid.proofs.Digits.{decimal_in_front}
 
 -- whatever the checksum is

@@ -24,13 +24,6 @@ more_digits_at v xs i d less digit is =
     let apart : drop i xs ≡ get_or xs i 0 ∷ drop (i + 1) xs = rw (add-one, drop-cons xs i 0) refl in
     rw (is, apart) (sym (more_digits v (get_or xs i 0) (drop (i + 1) xs) digit))
 
--- no digit at place i ends the number
-pub no_more_digits_at : (v : ℕ) (xs : List ℕ) (i : ℕ) → i < length xs → is_ascii_digit (get_or xs i 0) ≡ false
-    → digits_value_after 10 v (take_while is_ascii_digit (drop i xs)) ≡ v
-no_more_digits_at v xs i less other =
-    let apart : drop i xs ≡ get_or xs i 0 ∷ drop (i + 1) xs = rw (add-one, drop-cons xs i 0) refl in
-    rw (apart, take_while-cons is_ascii_digit (get_or xs i 0) (drop (i + 1) xs), other) refl
-
 -- further digits don't make a number less
 pub digits_grow : (v : ℕ) (ds : List ℕ) → v ≤ digits_value_after 10 v ds
 digits_grow v [] = omega arith

@@ -1,3 +1,17 @@
 pub mod Digits
 pub mod Values
 pub mod Descriptors
+pub mod Numbers
+pub mod Entries
+pub mod Texts
+pub mod Kept
+pub mod Causes
+pub mod Joins
+pub mod FileFields
+pub mod Spellings
+pub mod Lists
+pub mod ReadKinds
+pub mod WrittenKinds
+pub mod BadLists
+pub mod ListsDiffer
+pub mod Public

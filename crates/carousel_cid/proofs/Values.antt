@@ -6,10 +6,10 @@ use Rattle.std.specs.Char.{is_ascii_digit}
 use Rattle.std.specs.Str.Parse.{AllDigits}
 use Rattle.std.proofs.lemmas.Bool.Decides.{nat_tests}
 use Rattle.std.proofs.lemmas.Fmt.{decimal_is_IsNumeral, IsAscii-decimal}
-use Rattle.std.proofs.lemmas.List.{reverse-reverse, reverse-append}
-use Rattle.std.proofs.lemmas.List.Folds.{list_all-append}
+use Rattle.std.proofs.lemmas.List.{reverse-reverse}
 use Rattle.std.proofs.lemmas.Str.{is_utf8-from_IsUtf8, IsUtf8-from_ascii}
 use Rattle.meta_text.specs.Text.{IsValue, is_value_byte, is_blank, without_leading, without_trailing}
+use Rattle.meta_text.proofs.Public.{all_reversed}
 use Rattle.carousel_cid.proofs.Digits.{is_digit_of}
 
 -- a digit may stand in a value
@@ -33,19 +33,6 @@ pass_alike p h (d ∷ ds) all = elim (is_ascii_digit d) as (λ b. is_ascii_digit
   | false ↦ λ e rest. cc
 ] refl all
 
--- both of two tests hold
-both_pass : (b c : Bool) → (b && c) ≡ true → (b ≡ true) × (c ≡ true)
-both_pass true true e = (refl, refl)
-both_pass true false e = cc
-both_pass false c e = cc
-
--- digits in reverse are digits
-pass_reversed : (ds : List ℕ) → list_all is_ascii_digit ds ≡ true → list_all is_ascii_digit (reverse ds) ≡ true
-pass_reversed [] all = refl
-pass_reversed (d ∷ ds) all =
-    let both = both_pass (is_ascii_digit d) (list_all is_ascii_digit ds) all in
-    rw (reverse-append (d ∷ []) ds, list_all-append is_ascii_digit (reverse ds) (d ∷ []), pass_reversed ds both.1, both.0) refl
-
 -- digits have no blank in front
 no_blank_in_front : (ds : List ℕ) → list_all is_ascii_digit ds ≡ true → without_leading ds ≡ ds
 no_blank_in_front [] all = refl
@@ -56,7 +43,7 @@ no_blank_in_front (d ∷ ds) all = elim (is_ascii_digit d) as (λ b. is_ascii_di
 
 -- digits have no blank behind
 no_blank_behind : (ds : List ℕ) → list_all is_ascii_digit ds ≡ true → without_trailing ds ≡ ds
-no_blank_behind ds all = ap reverse (no_blank_in_front (reverse ds) (pass_reversed ds all)) ∙ reverse-reverse ds
+no_blank_behind ds all = ap reverse (no_blank_in_front (reverse ds) (all_reversed is_ascii_digit ds all)) ∙ reverse-reverse ds
 
 -- a number in decimal is a value
 pub decimal_is_value : (n : ℕ) → n < 2 ^ 64 → IsValue (decimal n)

@@ -1,7 +1,7 @@
 -- What contracts see of an installed instance (RFC 6968, section 3.2).
-use Rattle.std.specs.Prelude.{◌≡◌, ℕ, Bool, true, not, ◌&&◌, ◌==◌, List, [], ◌∷◌, map}
-use Rattle.std.specs.List.{list_any}
+use Rattle.std.specs.Prelude.{◌≡◌, ℕ, true, List, map}
 use Rattle.carousel_cid.specs.declared.file_of.FileOf.{FileOf}
+pub use Rattle.carousel_cid.specs.Repeats.{are_different}
 
 -- its number, the object of its descriptor, the identifiers that this lists, and their files
 pub record Shown : Type 0 where
@@ -9,11 +9,6 @@ pub record Shown : Type 0 where
   pub descriptor_toi : ℕ
   pub listed : List ℕ
   pub files : List FileOf
-
--- no identifier stands twice
-abbrev pub are_different : List ℕ → Bool
-are_different [] = true
-are_different (t ∷ ts) = not (list_any (λ u. u == t) ts) && are_different ts
 
 abbrev pub toi_of : FileOf → ℕ
 toi_of f = f.toi

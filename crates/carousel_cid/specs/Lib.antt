@@ -1,2 +1,12 @@
-pub mod Carousel
+pub mod Number
+pub mod KnownFields
+pub mod Repeats
+pub mod IdentifierList
+pub mod BadEntry
+pub mod File
+pub mod Descriptor
+pub mod Causes
+pub mod Kinds
 pub mod Instances
+pub mod EmptyDescriptor
+pub mod Inner

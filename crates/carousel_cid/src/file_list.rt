@@ -34,6 +34,13 @@ impl FileList {
         self.items.as_slice()
     }
 
+    /// The files, which takes no memory.
+    pub fn into_vec(self) -> Vec<FileOf>
+        ensures { result.items ≡ self }
+    {
+        self.items
+    }
+
     /// An equal list.
     pub fn copy(&self) -> Result<FileList, AllocError>
         ensures { IfOk result (λ r. r ≡ self.now) }

@@ -32,6 +32,13 @@ impl Identifiers {
         self.items.as_slice()
     }
 
+    /// The identifiers, which takes no memory.
+    pub fn into_vec(self) -> Vec<u128>
+        ensures { result.items ≡ self }
+    {
+        self.items
+    }
+
     /// An equal list.
     pub fn copy(&self) -> Result<Identifiers, AllocError>
         ensures { IfOk result (λ r. r ≡ self.now) }

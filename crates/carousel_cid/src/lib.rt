@@ -1,18 +1,27 @@
 //! Files, carousel instance descriptors and installed instances (RFC 6968, section 3).
 #![tactic(auto)]
 
+mod empty;
+mod entry;
 mod file_list;
 mod file_of;
 mod identifiers;
 mod instance;
 mod kind;
+pub mod laws;
+mod list;
+mod number;
+mod places;
 mod reading;
 #[cfg(test)]
 mod tests;
+mod writing;
 
+pub use empty::{EmptyKind, NotYet, kind_of_empty};
 pub use file_list::FileList;
 pub use file_of::FileOf;
 pub use identifiers::Identifiers;
 pub use instance::Instance;
 pub use kind::{Cause, Kind};
-pub use reading::kind_of;
+pub use reading::{classify, kind_of};
+pub use writing::{write_descriptor, write_file};

@@ -1,11 +1,12 @@
 -- What reading finds in a layout.
-use Rattle.std.proofs.Common.{◌≡◌, ℕ, zero, suc, ◌+◌, ◌-◌, ◌/◌, ◌%◌, ◌^◌, ◌<◌, ◌≤◌, Bool, true, false, cond, eqb, ◌==◌, List, [], ◌∷◌, ◌++◌, length, take, drop, replicate, Result, Ok, refl, sym, ap, ◌∙◌, append_assoc, arith}
-use Rattle.std.specs.List.{list_all}
+use Rattle.std.proofs.Common.{◌≡◌, ℕ, suc, ◌+◌, ◌-◌, ◌/◌, ◌%◌, ◌^◌, ◌<◌, ◌≤◌, Bool, true, false, cond, eqb, List, [], ◌∷◌, ◌++◌, length, take, drop, replicate, Result, Ok, refl, sym, ap, ◌∙◌, append_assoc, arith}
+use Rattle.wire_bytes.specs.Bytes.{are_zero}
+use Rattle.wire_bytes.proofs.Public.{replicated_zeros}
 use Rattle.std.proofs.lemmas.List.{take_at, drop_at, length-append, length-replicate, append-nil}
 use Rattle.byteorder.specs.Endian.{big_bytes}
 use Rattle.byteorder.specs.Numbers.{big_number-reads_back}
 use Rattle.meta_text.specs.Fields.{Pair, ArePairs, written}
-use Rattle.meta_text.proofs.Written.{reading-written}
+use Rattle.meta_text.proofs.Public.{reading-written}
 use Rattle.meta_text.specs.Reading as fields
 use Rattle.compound_object.specs.declared.fault.CompoundFault.{CompoundFault}
 use Rattle.compound_object.specs.Checksum.{checksum}
@@ -56,10 +57,6 @@ front-tail metadata body n is =
     let h = header_length_of metadata in
     let zeros : List ℕ = replicate (rounded h - h) 0 in
     take_at (metadata ++ zeros) body n (omega (arith, length-append metadata zeros, length-replicate {A = ℕ} (rounded h - h) 0, rounded_le h)) ∙ sym (append-nil (metadata ++ zeros))
-
-zeros_pass : (n : ℕ) → list_all (λ b. b == 0) (replicate n 0) ≡ true
-zeros_pass zero = refl
-zeros_pass (suc n) = zeros_pass n
 
 -- eight bytes, as a number in unary, so that take and drop compute past them
 pub past_eight : (n : ℕ) → 8 ≤ n → n ≡ suc (suc (suc (suc (suc (suc (suc (suc (n - 8))))))))
@@ -135,7 +132,7 @@ layout_passes first sum metadata body version fits checked =
       within = rw head (omega (arith, length-tail metadata body));
       format = refl;
       plain = refl;
-      zeros = ap (list_all (λ b. b == 0)) (filling-layout first sum metadata body fits) ∙ zeros_pass (rounded h - h);
+      zeros = ap are_zero (filling-layout first sum metadata body fits) ∙ replicated_zeros (rounded h - h);
       sum = stated_sum-layout first sum metadata body small ∙ checked ∙ sym (found_sum-layout first sum metadata body fits);
     }
 
@@ -152,28 +149,16 @@ reading-spelled object descriptor pairs body s =
     ∙ ap (made (is_descriptor o)) (body-layout s.first s.sum s.metadata body s.fits)
     ∙ ap (λ d. made d body) (sym s.kind)
 
--- what is written spells an object
+-- what is written spells an object, where its metadata says the fields
+pub SpellsObject-said : (descriptor : Bool) (pairs : List Pair) (body : List ℕ) → fields.reading (written pairs) ≡ Ok pairs → length (written pairs) ≤ 4294967287
+    → SpellsObject (object_bytes descriptor pairs body) descriptor pairs body
+SpellsObject-said descriptor pairs body says small = by descriptor
+  where
+    by : (d : Bool) → SpellsObject (object_bytes d pairs body) d pairs body
+    by true = record { first = 3; sum = checksum (layout 3 0 (written pairs) body); metadata = written pairs; joined = refl; version = refl; kind = refl; says = says; fits = omega arith; checked = refl }
+    by false = record { first = 2; sum = checksum (layout 2 0 (written pairs) body); metadata = written pairs; joined = refl; version = refl; kind = refl; says = says; fits = omega arith; checked = refl }
+
+-- which that of names and values does
 pub SpellsObject-written : (descriptor : Bool) (pairs : List Pair) (body : List ℕ) → ArePairs pairs → length (written pairs) ≤ 4294967287
     → SpellsObject (object_bytes descriptor pairs body) descriptor pairs body
-SpellsObject-written true pairs body are small = record {
-  first = 3;
-  sum = checksum (layout 3 0 (written pairs) body);
-  metadata = written pairs;
-  joined = refl;
-  version = refl;
-  kind = refl;
-  says = reading-written pairs are;
-  fits = omega arith;
-  checked = refl;
-}
-SpellsObject-written false pairs body are small = record {
-  first = 2;
-  sum = checksum (layout 2 0 (written pairs) body);
-  metadata = written pairs;
-  joined = refl;
-  version = refl;
-  kind = refl;
-  says = reading-written pairs are;
-  fits = omega arith;
-  checked = refl;
-}
+SpellsObject-written descriptor pairs body are small = SpellsObject-said descriptor pairs body (reading-written pairs are) small

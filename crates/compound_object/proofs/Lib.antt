@@ -3,3 +3,4 @@ pub mod Refusals
 pub mod Sayings
 pub mod Layouts
 pub mod Spelled
+pub mod Public

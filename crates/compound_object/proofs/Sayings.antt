@@ -1,6 +1,8 @@
 -- What the bytes say, once the header is sound or refused.
-use Rattle.std.proofs.Common.{◌≡◌, ℕ, ◌-◌, List, drop, take, length, Some, None, Result, Ok, Err, sym, ap, ◌∙◌}
+use Rattle.std.proofs.Common.{◌≡◌, ℕ, ◌-◌, List, drop, take, length, Some, None, Result, Ok, Err, refl, sym, ap, ◌∙◌}
+use Rattle.std.specs.Prelude.{IsOk, is_ok}
 use Rattle.std.proofs.lemmas.List.{take_rest}
+use Rattle.meta_text.specs.declared.fault.FieldFault.{FieldFault}
 use Rattle.meta_text.specs.Fields.{Pair}
 use Rattle.meta_text.specs.Reading as fields
 use Rattle.compound_object.specs.declared.fault.CompoundFault.{CompoundFault}
@@ -51,3 +53,11 @@ pub reading_ok : (o : List ℕ) (metadata body : List ℕ) (pairs : List Pair) �
 reading_ok o metadata body pairs sound is rest said =
     let made : List ℕ → Result Parts CompoundFault = λ b. Ok (record { descriptor = is_descriptor o; fields = pairs; body = b }) in
     reading_sound o sound ∙ ap (λ (m : List ℕ). with_fields o (fields.reading m)) (sym is) ∙ ap (with_fields o) said ∙ ap made (sym rest)
+
+-- with sound metadata the whole is an object
+pub reading_is_ok : (o metadata : List ℕ) → refusal o ≡ None → metadata ≡ metadata_in o → IsOk (fields.reading metadata) → IsOk (reading o)
+reading_is_ok o metadata sound is ok = by (fields.reading metadata) refl ok
+  where
+    by : (r : Result (List Pair) FieldFault) → fields.reading metadata ≡ r → IsOk r → IsOk (reading o)
+    by (Ok pairs) said ok = ap is_ok (reading_ok o metadata (body_in o) pairs sound is refl said)
+    by (Err fault) said ok = absurd cc

@@ -1,8 +1,8 @@
 -- An object that is read is spelled so, each byte of it.
-use Rattle.std.proofs.Common.{◌≡◌, ℕ, zero, suc, ◌+◌, ◌-◌, ◌*◌, ◌^◌, ◌<◌, ◌≤◌, true, ◌==◌, List, [], ◌∷◌, ◌++◌, length, get_or, take, drop, replicate, Option, Some, None, Result, Ok, Err, refl, sym, ap, subst, ◌∙◌, append_assoc, arith}
+use Rattle.std.proofs.Common.{◌≡◌, ℕ, zero, suc, ◌+◌, ◌-◌, ◌*◌, ◌^◌, ◌<◌, ◌≤◌, true, List, [], ◌∷◌, ◌++◌, length, get_or, take, drop, replicate, Option, Some, None, Result, Ok, Err, refl, sym, ap, subst, ◌∙◌, append_assoc, arith}
 use Rattle.std.specs.Prelude.{IfOk}
-use Rattle.std.specs.List.{list_all}
-use Rattle.std.proofs.lemmas.Bool.{and_parts, eqb-true}
+use Rattle.wire_bytes.specs.Bytes.{AreBytes, are_zero}
+use Rattle.wire_bytes.proofs.Public.{zeros_are, byte_at_place}
 use Rattle.std.proofs.lemmas.List.{take-append-drop, drop-drop, length-take, length-drop}
 use Rattle.std.proofs.lemmas.Nat.{be_bytes_2, be_bytes_4}
 use Rattle.byteorder.specs.Endian.{big_bytes}
@@ -15,15 +15,6 @@ use Rattle.compound_object.specs.Object.{rounded, header_length_of, layout, Spel
 use Rattle.compound_object.specs.Reading.{header_length, metadata_in, filling_in, body_in, is_descriptor, stated_sum, found_sum, refusal, Parts, parts_of, with_fields, unless, reading, Gives}
 use Rattle.compound_object.proofs.Refusals.{Passes, passes_from_none}
 use Rattle.compound_object.proofs.Layouts.{tail, past_eight, found_sum-layout}
-
-abbrev pub IsBytes : List ℕ → Type 0
-IsBytes bytes = (i : ℕ) → get_or bytes i 0 < 256
-
-zeros_are : (xs : List ℕ) → list_all (λ b. b == 0) xs ≡ true → xs ≡ replicate (length xs) 0
-zeros_are [] all = refl
-zeros_are (x ∷ xs) all =
-    let parts = and_parts (x == 0) (list_all (λ b. b == 0) xs) all in
-    ap (λ y. y ∷ xs) (eqb-true x 0 parts.0) ∙ ap (λ (ys : List ℕ). 0 ∷ ys) (zeros_are xs parts.1)
 
 two_bytes : (a b : ℕ) → a < 256 → b < 256 → big_bytes 2 (a * 256 + b) ≡ a ∷ b ∷ []
 two_bytes a b la lb = be_bytes_2 (a ∷ b ∷ []) (a * 256 + b) refl small (omega arith)
@@ -44,7 +35,7 @@ four_bytes a b c d la lb lc ld = be_bytes_4 (a ∷ b ∷ c ∷ d ∷ []) (a * 16
     small (suc (suc (suc (suc i)))) = omega arith
 
 -- what follows the first eight bytes, cut at the header's length and at the body's start
-rest_is : (rest : List ℕ) (h : ℕ) → 8 ≤ h → rounded h ≤ 8 + length rest → list_all (λ b. b == 0) (take (rounded h - h) (drop (h - 8) rest)) ≡ true
+rest_is : (rest : List ℕ) (h : ℕ) → 8 ≤ h → rounded h ≤ 8 + length rest → are_zero (take (rounded h - h) (drop (h - 8) rest)) ≡ true
     → (8 + length (take (h - 8) rest) ≡ h) × (rest ≡ tail (take (h - 8) rest) (drop (rounded h - 8) rest))
 rest_is rest h least within zeros =
     let m = take (h - 8) rest in
@@ -72,16 +63,17 @@ sum_cells : (a0 a1 a2 a3 : ℕ) (rest : List ℕ) → stated_sum (a0 ∷ a1 ∷ 
 unfolding stated_sum
 sum_cells a0 a1 a2 a3 rest = omega arith
 
-spelled : (o : List ℕ) (pairs : List Pair) → IsBytes o → Passes o → fields.reading (metadata_in o) ≡ Ok pairs → SpellsObject o (is_descriptor o) pairs (body_in o)
+spelled : (o : List ℕ) (pairs : List Pair) → AreBytes o → Passes o → fields.reading (metadata_in o) ≡ Ok pairs → SpellsObject o (is_descriptor o) pairs (body_in o)
 spelled (a0 ∷ a1 ∷ a2 ∷ a3 ∷ a4 ∷ a5 ∷ a6 ∷ a7 ∷ rest) pairs fits p says =
     let o : List ℕ = a0 ∷ a1 ∷ a2 ∷ a3 ∷ a4 ∷ a5 ∷ a6 ∷ a7 ∷ rest in
+    let at : (i : ℕ) → get_or o i 0 < 256 = byte_at_place o fits in
     let h = header_length o in
     let cells = header_cells a0 a1 a2 a3 a4 a5 a6 a7 rest in
-    let header : big_bytes 4 h ≡ a4 ∷ a5 ∷ a6 ∷ a7 ∷ [] = ap (big_bytes 4) cells ∙ four_bytes a4 a5 a6 a7 (fits 4) (fits 5) (fits 6) (fits 7) in
-    let sum : big_bytes 2 (stated_sum o) ≡ a2 ∷ a3 ∷ [] = ap (big_bytes 2) (sum_cells a0 a1 a2 a3 (a4 ∷ a5 ∷ a6 ∷ a7 ∷ rest)) ∙ two_bytes a2 a3 (fits 2) (fits 3) in
+    let header : big_bytes 4 h ≡ a4 ∷ a5 ∷ a6 ∷ a7 ∷ [] = ap (big_bytes 4) cells ∙ four_bytes a4 a5 a6 a7 (at 4) (at 5) (at 6) (at 7) in
+    let sum : big_bytes 2 (stated_sum o) ≡ a2 ∷ a3 ∷ [] = ap (big_bytes 2) (sum_cells a0 a1 a2 a3 (a4 ∷ a5 ∷ a6 ∷ a7 ∷ rest)) ∙ two_bytes a2 a3 (at 2) (at 3) in
     let second : a1 ≡ 0 = omega (arith, p.format, p.plain) in
     let filling : filling_in o ≡ take (rounded h - h) (drop (h - 8) rest) = ap (λ k. take (rounded h - h) (drop k o)) (past_eight h p.least) in
-    let parts = rest_is rest h p.least (omega (arith, p.within)) (ap (list_all (λ b. b == 0)) (sym filling) ∙ p.zeros) in
+    let parts = rest_is rest h p.least (omega (arith, p.within)) (ap are_zero (sym filling) ∙ p.zeros) in
     let metadata = take (h - 8) rest in
     let body = drop (rounded h - 8) rest in
     let build : ℕ → List ℕ → List ℕ → List ℕ → List ℕ = λ z s n t. a0 ∷ z ∷ s ++ n ++ t in
@@ -90,7 +82,7 @@ spelled (a0 ∷ a1 ∷ a2 ∷ a3 ∷ a4 ∷ a5 ∷ a6 ∷ a7 ∷ rest) pairs fit
     ∙ ap (λ (s : List ℕ). build 0 s (a4 ∷ a5 ∷ a6 ∷ a7 ∷ []) rest) (sym sum)
     ∙ ap (λ (n : List ℕ). build 0 (big_bytes 2 (stated_sum o)) n rest) (sym header ∙ ap (big_bytes 4) (sym parts.0))
     ∙ ap (build 0 (big_bytes 2 (stated_sum o)) (big_bytes 4 (header_length_of metadata))) parts.1 in
-    let fits_32 : header_length_of metadata < 2 ^ 32 = omega (arith, parts.0, cells, fits 4, fits 5, fits 6, fits 7) in
+    let fits_32 : header_length_of metadata < 2 ^ 32 = omega (arith, parts.0, cells, at 4, at 5, at 6, at 7) in
     let body-is : drop (rounded h - 8) rest ≡ body_in o = ap (λ k. drop k o) (sym (past_eight (rounded h) (omega (arith, p.least)))) in
     let whole : SpellsObject o (is_descriptor o) pairs body = record {
       first = a0;
@@ -117,7 +109,7 @@ said_ok o (Ok pairs) parts e =
 said_ok o (Err fault) parts e = absurd cc
 
 -- what is read is spelled so
-pub spelled-reading : (o : List ℕ) (parts : Parts) → IsBytes o → reading o ≡ Ok parts → SpellsObject o parts.descriptor parts.fields parts.body
+pub spelled-reading : (o : List ℕ) (parts : Parts) → AreBytes o → reading o ≡ Ok parts → SpellsObject o parts.descriptor parts.fields parts.body
 unfolding reading
 spelled-reading o parts fits e = by (refusal o) refl e
   where
@@ -128,6 +120,6 @@ spelled-reading o parts fits e = by (refusal o) refl e
         (subst (λ d. SpellsObject o d parts.fields (body_in o)) said.1 (spelled o parts.fields fits (passes_from_none o none) said.0))
     by (Some fault) none e = absurd cc
 
-pub is_spelled : (o : List ℕ) (r : Result Compound CompoundFault) → IsBytes o → Gives r (reading o) → IfOk r (λ c. SpellsObject o c.descriptor c.fields c.body.now)
+pub is_spelled : (o : List ℕ) (r : Result Compound CompoundFault) → AreBytes o → Gives r (reading o) → IfOk r (λ c. SpellsObject o c.descriptor c.fields c.body.now)
 is_spelled o (Ok c) fits given = spelled-reading o (parts_of c) fits given
 is_spelled o (Err fault) fits given = tt

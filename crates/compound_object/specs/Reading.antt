@@ -1,7 +1,8 @@
 -- What the bytes of a compound object say, or the first refusal.
 use Rattle.std.specs.Prelude.{◌≡◌, ℕ, ◌-◌, ◌/◌, ◌%◌, ◌==◌, nat_lt, Bool, not, ◌||◌, if◌then◌else◌, List, [], ◌∷◌, ◌++◌, length, take, drop, slice_index, Option, Some, None, Result, Ok, Err}
-use Rattle.std.specs.List.{list_all}
 use Rattle.byteorder.specs.Endian.{big_number}
+use Rattle.wire_bytes.specs.Bytes.{are_zero}
+use Rattle.wire_bytes.specs.FirstFault.{fault_when, first_fault}
 use Rattle.meta_text.specs.declared.fault.FieldFault.{FieldFault}
 use Rattle.meta_text.specs.Fields.{Pair}
 use Rattle.meta_text.specs.Reading as fields
@@ -59,21 +60,16 @@ without_sum bytes = take 2 bytes ++ 0 ∷ 0 ∷ drop 4 bytes
 unfoldable pub found_sum : List ℕ → ℕ
 found_sum object = checksum (without_sum (covered object))
 
--- of causes and their faults: the fault of the first cause that holds
-abbrev pub first_that_holds : List (Bool × CompoundFault) → Option CompoundFault
-first_that_holds [] = None
-first_that_holds (line ∷ lines) = if line.0 then Some line.1 else first_that_holds lines
-
 -- what is wrong with an object before its metadata is read
 unfoldable pub refusal : List ℕ → Option CompoundFault
-refusal object = first_that_holds (
-    (nat_lt (length object) 8, Short)
-    ∷ (not (version_in object == 0), Version)
-    ∷ (nat_lt (header_length object) 8 || nat_lt (length object) (body_start object), HeaderLength)
-    ∷ (not (format_in object == 0) || nat_lt 1 (encoding_in object), Format)
-    ∷ (encoding_in object == 1, Gzip)
-    ∷ (not (list_all (λ b. b == 0) (filling_in object)), FillNotZero)
-    ∷ (not (stated_sum object == found_sum object), Checksum (stated_sum object) (found_sum object))
+refusal object = first_fault (
+    fault_when (nat_lt (length object) 8) Short
+    ∷ fault_when (not (version_in object == 0)) Version
+    ∷ fault_when (nat_lt (header_length object) 8 || nat_lt (length object) (body_start object)) HeaderLength
+    ∷ fault_when (not (format_in object == 0) || nat_lt 1 (encoding_in object)) Format
+    ∷ fault_when (encoding_in object == 1) Gzip
+    ∷ fault_when (not (are_zero (filling_in object))) FillNotZero
+    ∷ fault_when (not (stated_sum object == found_sum object)) (Checksum (stated_sum object) (found_sum object))
     ∷ [])
 
 -- an object without where it lies in memory

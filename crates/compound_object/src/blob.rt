@@ -32,6 +32,13 @@ impl Blob {
         self.bytes.as_slice()
     }
 
+    /// The bytes, which takes no memory.
+    pub fn into_vec(self) -> Vec<u8>
+        ensures { result.items ≡ self }
+    {
+        self.bytes
+    }
+
     /// A blob with the same bytes.
     pub fn copy(&self) -> Result<Blob, AllocError>
         ensures { IfOk result (λ r. r ≡ self.now) }

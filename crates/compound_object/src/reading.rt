@@ -1,5 +1,4 @@
-ghost use Rattle.std.specs.Prelude.{ℕ, Bool, List, Ok, ◌≡◌, ◌≤◌, ◌<◌, ◌^◌, ◌==◌, length, Some, None, OnOk, IfOk, IfErr};
-ghost use Rattle.std.specs.List.{list_all};
+ghost use Rattle.std.specs.Prelude.{ℕ, Bool, List, Ok, IsOk, ◌≡◌, ◌≢◌, ◌≤◌, ◌<◌, ◌^◌, ◌==◌, length, Some, None, OnOk, IfOk, IfErr};
 ghost use Rattle.compound_object.specs.Checksum.{checksum};
 ghost use Rattle.meta_text.specs.Fields.{Pair};
 ghost use Rattle.compound_object.specs.Object as objects;
@@ -14,6 +13,7 @@ use crate::sums::sum_from;
 use byteorder::{BigEndian, ByteOrder};
 use meta_text::{FieldFault, Fields};
 use std::alloc::Global;
+use wire_bytes::is_zero;
 
 /// Reads a compound object; its body stays where it is.
 ///
@@ -26,12 +26,15 @@ pub fn read(alloc: Global, bytes: &[u8]) -> Result<Compound<'_>, CompoundFault>
         → Gives result (Ok (record { descriptor = descriptor; fields = fields; body = body })) }
     // Which fault it is.
     ensures exact { Gives result (reading bytes.now) }
+    // Memory runs out at an object alone.
+    ensures memory { IfErr result (λ e. e ≡ CompoundFault.Memory → IsOk (reading bytes.now)) }
 {
     unpack(alloc, bytes)
 }
 
 fn unpack(alloc: Global, bytes: &[u8]) -> Result<Compound<'_>, CompoundFault>
-    ensures { Gives result (reading bytes.now) }
+    ensures reading { Gives result (reading bytes.now) }
+    ensures memory { IfErr result (λ e. e ≡ CompoundFault.Memory → IsOk (reading bytes.now)) }
 {
     let header_length = sound_header(bytes)?;
     let fields = fields_of(alloc, &bytes[8..header_length])?;
@@ -50,6 +53,7 @@ fn sound_header(bytes: &[u8]) -> Result<usize, CompoundFault>
     ensures most { IfOk result (λ h. h < 2 ^ 32) }
     ensures within { OnOk result (specs.body_start bytes.now ≤ length bytes.now) }
     ensures fault { IfErr result (λ e. refusal bytes.now ≡ Some e) }
+    ensures memory { IfErr result (λ e. e ≢ CompoundFault.Memory) }
 {
     if bytes.len() < 8 {
         return Err(CompoundFault::Short);
@@ -84,12 +88,6 @@ fn rounded(length: usize) -> usize
     ensures { result ≡ objects.rounded length }
 {
     length.div_ceil(4) * 4
-}
-
-fn is_zero(bytes: &[u8]) -> bool
-    ensures { result ≡ list_all (λ b. b == 0) bytes.now }
-{
-    bytes.iter().all(|b| *b == 0)
 }
 
 #[tactic(auto, unfolding(crate::specs::Reading::header_length))]
@@ -143,7 +141,8 @@ fn sum_without_field(bytes: &[u8]) -> u16
 }
 
 fn fields_of(alloc: Global, metadata: &[u8]) -> Result<Fields, CompoundFault>
-    ensures { GivesFields result (metadata_specs.reading metadata.now) }
+    ensures fields { GivesFields result (metadata_specs.reading metadata.now) }
+    ensures memory { IfErr result (λ e. e ≡ CompoundFault.Memory → IsOk (metadata_specs.reading metadata.now)) }
 {
     match Fields::read(alloc, metadata) {
         Ok(fields) => Ok(fields),

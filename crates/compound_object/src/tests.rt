@@ -30,7 +30,7 @@ fn vectors_are_read_and_written(rt: HostRuntime) -> Result<(), Fail> {
             "of {bytes:?}"
         );
         assert_eq!(rt; compound.body, body, "of {bytes:?}");
-        let metadata = compound.fields.write(rt.alloc())?;
+        let metadata = compound.fields.write()?;
         assert!(rt; metadata.len() < 100);
         let written = write(rt.alloc(), descriptor, &compound.fields, body)?;
         assert_eq!(rt; written.as_slice(), bytes);
@@ -141,5 +141,6 @@ fn checksums(rt: HostRuntime) {
 fn blobs(rt: HostRuntime) -> Result<(), Fail> {
     let blob = Blob::new(b"bytes".to_vec(rt.alloc())?);
     assert_eq!(rt; blob.copy()?.as_slice(), b"bytes".as_slice());
+    assert_eq!(rt; blob.into_vec().as_slice(), b"bytes".as_slice());
     Ok(())
 }

@@ -6,3 +6,7 @@ pub mod Faults
 pub mod Runs
 pub mod Lookups
 pub mod Written
+pub mod Public
+pub mod PairPlaces
+pub mod Sound
+pub mod LineLaws

@@ -1,5 +1,5 @@
 -- The values under a name, one pair after another.
-use Rattle.std.proofs.Common.{◌≡◌, ℕ, ◌+◌, ◌<◌, Bool, true, false, cond, List, [], ◌∷◌, ◌++◌, length, get_or, map, take, refl, sym, ap, ◌∙◌}
+use Rattle.std.proofs.Common.{◌≡◌, ℕ, ◌+◌, ◌<◌, Bool, true, false, cond, List, [], ◌∷◌, ◌++◌, length, get_or, map, take, refl, ap, ◌∙◌}
 use Rattle.std.specs.Str.{str_eq_ignore_ascii_case}
 use Rattle.std.proofs.lemmas.List.{map_more}
 use Rattle.meta_text.specs.Fields.{Pair}
@@ -15,8 +15,7 @@ values_of-append name (p ∷ ps) qs = by (str_eq_ignore_ascii_case p.0 name) (va
     by false e = e
 
 -- one pair more
-pub values_of-more : {X : Type 0} (name : List ℕ) (pair_of : X → Pair) (xs : List X) (i : ℕ) (x : X) → i < length xs → x ≡ get_or xs i x
-    → values_of name (map pair_of (take (i + 1) xs)) ≡ values_of name (map pair_of (take i xs)) ++ values_of name (pair_of x ∷ [])
-values_of-more name pair_of xs i x lt is =
-    let last : map pair_of (take (i + 1) xs) ≡ map pair_of (take i xs) ++ pair_of x ∷ [] = map_more pair_of xs i x lt ∙ ap (λ y. map pair_of (take i xs) ++ pair_of y ∷ []) (sym is) in
-    ap (values_of name) last ∙ values_of-append name (map pair_of (take i xs)) (pair_of x ∷ [])
+pub values_of-more : {X : Type 0} (name : List ℕ) (pair_of : X → Pair) (xs : List X) (i : ℕ) (d : X) → i < length xs
+    → values_of name (map pair_of (take (i + 1) xs)) ≡ values_of name (map pair_of (take i xs)) ++ values_of name (pair_of (get_or xs i d) ∷ [])
+values_of-more name pair_of xs i d less =
+    ap (values_of name) (map_more pair_of xs i d less) ∙ values_of-append name (map pair_of (take i xs)) (pair_of (get_or xs i d) ∷ [])

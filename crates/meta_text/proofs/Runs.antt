@@ -1,7 +1,6 @@
 -- Reading lines one after another, as a loop does.
-use Rattle.std.proofs.Common.{◌≡◌, ◌≢◌, ℕ, ◌+◌, Bool, true, false, cond, List, [], ◌∷◌, ◌++◌, length, Option, Some, None, Result, Ok, Err, refl, sym, ap, ◌∙◌, append_assoc}
+use Rattle.std.proofs.Common.{◌≡◌, ◌≢◌, ℕ, ◌+◌, Bool, true, false, cond, List, [], ◌∷◌, ◌++◌, Option, Some, None, Result, Ok, Err, refl, sym, ap, ◌∙◌}
 use Rattle.std.specs.Option.{option_or}
-use Rattle.std.proofs.lemmas.List.{append-nil, nil_from_length}
 use Rattle.meta_text.specs.declared.fault.FieldFault.{FieldFault}
 use Rattle.meta_text.specs.declared.fault.FieldFault.TheVariants.{NoColon, BadName, BadValue, Memory}
 use Rattle.meta_text.specs.Text.{is_empty}
@@ -22,22 +21,6 @@ pub unless_front : (front pairs : List Pair) (fault : Option FieldFault) → wit
 unless_front front pairs None = refl
 unless_front front pairs (Some fault) = refl
 
-move_pair : (front : List Pair) (pair : Pair) (pairs : List Pair) (own later : Option FieldFault) → option_or own None ≡ None
-    → with_front front (unless (option_or own later) (pair ∷ pairs)) ≡ with_front (front ++ pair ∷ []) (unless later pairs)
-move_pair front pair pairs None None sound = ap (λ (ps : List Pair). Ok ps) (sym (append_assoc front (pair ∷ []) pairs))
-move_pair front pair pairs None (Some fault) sound = refl
-move_pair front pair pairs (Some fault) later sound = absurd cc
-
--- a line without a fault: its pair goes to the front
-sound_step : (front : List Pair) (n : ℕ) (line : List ℕ) (lines : List (List ℕ)) → first_fault (numbered n (line ∷ [])) ≡ None
-    → with_front front (said (numbered n (line ∷ lines))) ≡ with_front (front ++ pairs_in (numbered n (line ∷ []))) (said (numbered (n + 1) lines))
-sound_step front n line lines sound = by (is_empty line) sound
-  where
-    by : (t : Bool) → first_fault (cond t [] ((n, line) ∷ [])) ≡ None
-        → with_front front (said (cond t (numbered (n + 1) lines) ((n, line) ∷ numbered (n + 1) lines))) ≡ with_front (front ++ pairs_in (cond t [] ((n, line) ∷ []))) (said (numbered (n + 1) lines))
-    by true s = ap (λ (ps : List Pair). with_front ps (said (numbered (n + 1) lines))) (sym (append-nil front))
-    by false s = move_pair front (pair_in (n, line)) (pairs_in (numbered (n + 1) lines)) (fault_of (n, line)) (first_fault (numbered (n + 1) lines)) s
-
 stop_at : (pairs : List Pair) (fault : FieldFault) (own later : Option FieldFault) → option_or own None ≡ Some fault → unless (option_or own later) pairs ≡ Err fault
 stop_at pairs fault None later is = absurd cc
 stop_at pairs fault (Some other) later is = cc
@@ -55,12 +38,6 @@ pub begins : (text : List ℕ) → with_front [] (said (numbered 1 (lines_of tex
 unfolding reading
 begins text = front_nil (said (numbered 1 (lines_of text)))
 
-pub goes_on : (front : List Pair) (n : ℕ) (rest line after : List ℕ) (total : Result (List Pair) FieldFault) → lines_of rest ≡ line ∷ lines_of after
-    → first_fault (numbered n (line ∷ [])) ≡ None → with_front front (said (numbered n (lines_of rest))) ≡ total
-    → with_front (front ++ pairs_in (numbered n (line ∷ []))) (said (numbered (n + 1) (lines_of after))) ≡ total
-goes_on front n rest line after total lines sound so_far =
-    sym (sound_step front n line (lines_of after) sound) ∙ ap (λ (ls : List (List ℕ)). with_front front (said (numbered n ls))) (sym lines) ∙ so_far
-
 pub ends : (fault : FieldFault) (front : List Pair) (n : ℕ) (rest line after : List ℕ) (total : Result (List Pair) FieldFault) → lines_of rest ≡ line ∷ lines_of after
     → (fault ≢ Memory → first_fault (numbered n (line ∷ [])) ≡ Some fault) → with_front front (said (numbered n (lines_of rest))) ≡ total → Fails fault total
 ends fault front n rest line after total lines is so_far = by fault is
@@ -73,8 +50,3 @@ ends fault front n rest line after total lines is so_far = by fault is
     by (NoColon k) e = at (NoColon k) (e (λ same. cc))
     by (BadName k) e = at (BadName k) (e (λ same. cc))
     by (BadValue k) e = at (BadValue k) (e (λ same. cc))
-
-pub is_done : (front : List Pair) (n : ℕ) (rest : List ℕ) (total : Result (List Pair) FieldFault) → length rest ≡ 0
-    → with_front front (said (numbered n (lines_of rest))) ≡ total → total ≡ Ok front
-is_done front n rest total none so_far =
-    sym so_far ∙ ap (λ (bytes : List ℕ). with_front front (said (numbered n (lines_of bytes)))) (nil_from_length rest none) ∙ ap (λ (ps : List Pair). Ok ps) (append-nil front)

@@ -1,5 +1,5 @@
 -- The lines of a text of metadata fields, and what each says.
-use Rattle.std.specs.Prelude.{ℕ, ◌+◌, Bool, ◌==◌, List, [], ◌∷◌, map, reverse, if◌then◌else◌}
+use Rattle.std.specs.Prelude.{ℕ, ◌+◌, Bool, ◌==◌, List, [], ◌∷◌, ◌++◌, map, reverse, if◌then◌else◌}
 use Rattle.std.specs.List.{before_first, after_first}
 use Rattle.meta_text.specs.Text.{is_empty, trimmed}
 use Rattle.meta_text.specs.Fields.{Pair}
@@ -16,6 +16,10 @@ begin_with b (line ∷ lines) = (b ∷ line) ∷ lines
 abbrev pub cut : List ℕ → List (List ℕ)
 cut [] = []
 cut (b ∷ bs) = if is_line_feed b then [] ∷ cut bs else begin_with b (cut bs)
+
+-- a line and its end
+abbrev pub with_feed : List ℕ → List ℕ
+with_feed line = line ++ 0x0A ∷ []
 
 abbrev pub after_return : List ℕ → List ℕ
 after_return [] = []

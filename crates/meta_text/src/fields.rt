@@ -1,41 +1,39 @@
-ghost use Rattle.std.specs.Prelude.{ℕ, List, ◌≡◌, ◌<◌, ◌++◌, [], ◌∷◌, length, map, slice_get, Some, IfOk, OnOk, OnErr};
+ghost use Rattle.std.specs.Prelude.{ℕ, List, ◌≡◌, ◌<◌, ◌+◌, ◌-◌, ◌^◌, ◌++◌, [], ◌∷◌, length, min, slice_get, Some, Ok, IsOk, IfOk, IfErr, OnOk, OnErr};
+ghost use Rattle.std.specs.Str.{IsUtf8};
 ghost use Rattle.meta_text.specs.Text.{IsName, IsValue};
-ghost use Rattle.meta_text.specs.Fields.{ArePairs, line_of, written};
+ghost use Rattle.meta_text.specs.Fields.{line_of, written};
 ghost use Rattle.meta_text.specs.Reading as readings;
 ghost use Rattle.meta_text.specs.Reading.{Gives};
 ghost use Rattle.meta_text.specs.Lookup.{values_of, Finds};
+ghost use Rattle.meta_text.specs.Inner.Places.{name_at, value_at, pair_at, pairs_at, IsPlace, ArePlaces, Extends};
 
 use crate::fault::FieldFault;
 use crate::field::Field;
-use crate::label::Label;
+use crate::place::Place;
 use crate::reading;
 use std::alloc::{AllocError, Global};
 use std::marker::Model;
-
-/// A name and its value.
-#[derive(Drop)]
-struct Pair {
-    name: Label,
-    value: Label,
-}
+use std::str;
 
 /// Metadata fields: pairs of a name and a value, in order.
 ///
 /// Each name is a name as `is_name` tests, each value a value as `is_value` does.
 #[derive(Drop)]
 pub struct Fields {
-    pairs: Vec<Pair>,
+    /// The names and values, one behind the other.
+    text: Vec<u8>,
+    places: Vec<Place>,
 }
 
 impl Model for Fields {
-    ghost use Rattle.std.specs.Prelude.{ℕ, List, map};
-    ghost use Rattle.meta_text.specs.Fields.{ArePairs};
+    ghost use Rattle.std.specs.Prelude.{ℕ, List};
+    ghost use Rattle.meta_text.specs.Inner.Places.{pairs_at, ArePlaces};
 
     ghost Value = { List (List ℕ × List ℕ) };
 
-    ghost view = { λ a. map (λ p. (p.name, p.value)) a.pairs.items };
+    ghost view = { λ a. pairs_at a.text.items a.places.items };
 
-    ghost invariant = { λ a. ArePairs (map (λ p. (p.name, p.value)) a.pairs.items) };
+    ghost invariant = { λ a. ArePlaces a.text.items a.places.items };
 }
 
 impl Fields {
@@ -44,16 +42,30 @@ impl Fields {
         ensures { result ≡ [] }
     {
         Fields {
-            pairs: Vec::new(alloc),
+            text: Vec::new(alloc),
+            places: Vec::new(alloc),
         }
+    }
+
+    /// No field yet, and room for so many pairs of so many bytes in all.
+    pub(crate) fn with_capacity(
+        alloc: Global,
+        pairs: usize,
+        bytes: usize,
+    ) -> Result<Fields, AllocError>
+        ensures { IfOk result (λ fields. fields ≡ []) }
+    {
+        Ok(Fields {
+            text: Vec::with_capacity(alloc, bytes)?,
+            places: Vec::with_capacity(alloc, pairs)?,
+        })
     }
 
     /// How many pairs there are.
     pub fn len(&self) -> usize
-        ensures len { result ≡ length self.now }
-        ensures pairs { ArePairs self.now }
+        ensures { result ≡ length self.now }
     {
-        self.pairs.len()
+        self.places.len()
     }
 
     /// The name and the value of the pair at a place, counted from 0.
@@ -61,8 +73,8 @@ impl Fields {
         requires { i < length self.now }
         ensures { slice_get self.now i ≡ Some (result.0.now, result.1.now) }
     {
-        let pair = &self.pairs[i];
-        (pair.name.as_str(), pair.value.as_str())
+        let place = self.places[i];
+        (name(&self.text, place), value(&self.text, place))
     }
 
     /// Adds a pair at the end. Without memory for it, the fields are as they were.
@@ -72,22 +84,17 @@ impl Fields {
         ensures ok { OnOk result (self.new ≡ self.old ++ (name.now, value.now) ∷ []) }
         ensures err { OnErr result (self.new ≡ self.old) }
     {
-        let alloc = *self.pairs.allocator();
-        let pair = Pair {
-            name: Label::new(String::from_str(alloc, name)?),
-            value: Label::new(String::from_str(alloc, value)?),
-        };
-        self.pairs.push(pair)?;
-        Ok(())
+        push_pair(&mut self.text, &mut self.places, name, value)
     }
 
     /// The fields of a text, or the fault of its first faulty line.
     ///
     /// The text is cut at each LF, and one CR at a line's end is left out. Empty lines are passed over and
     /// counted. Every other line is a name, a colon and a value; spaces and tabs at the value's ends are
-    /// left out.
+    /// left out. Memory is taken once no line is faulty: at most the text's length, and 24 bytes a pair.
     pub fn read(alloc: Global, bytes: &[u8]) -> Result<Fields, FieldFault>
-        ensures { Gives result (readings.reading bytes.now) }
+        ensures reading { Gives result (readings.reading bytes.now) }
+        ensures memory { IfErr result (λ e. e ≡ FieldFault.Memory → IsOk (readings.reading bytes.now)) }
     {
         reading::read(alloc, bytes)
     }
@@ -96,58 +103,169 @@ impl Fields {
     pub fn get(&self, name: &str) -> Field<'_>
         ensures { Finds result (values_of name.now self.now) }
     {
-        find(&self.pairs, name)
+        find(&self.text, &self.places, name)
     }
 
     /// The text of the fields: name, colon, space, value and CR LF for each pair in order.
-    pub fn write(&self, alloc: Global) -> Result<Vec<u8>, AllocError>
-        ensures { IfOk result (λ v. v.items ≡ written self.now) }
+    pub fn write(&self) -> Result<Vec<u8>, AllocError>
+        ensures text { IfOk result (λ v. v.items ≡ written self.now) }
+        ensures read_again { IfOk result (λ v. readings.reading v.items ≡ Ok self.now) }
     {
-        lines(alloc, &self.pairs)
+        let alloc = *self.text.allocator();
+        let mut out = Vec::with_capacity(alloc, self.written_len())?;
+        self.write_to(&mut out)?;
+        Ok(out)
+    }
+
+    /// Adds the text of the fields to these bytes.
+    pub fn write_to(&self, out: &mut Vec<u8>) -> Result<(), AllocError>
+        ensures text { OnOk result (out.new.items ≡ out.old.items ++ written self.now) }
+        ensures read_again { readings.reading (written self.now) ≡ Ok self.now }
+    {
+        push_lines(out, &self.text, &self.places)
+    }
+
+    /// How many bytes the text of the fields has.
+    pub fn written_len(&self) -> usize
+        ensures { result ≡ min (length (written self.now)) (2 ^ 64 - 1) }
+    {
+        lines_len(&self.text, &self.places)
     }
 }
 
-fn find<'a>(pairs: &'a [Pair], name: &str) -> Field<'a>
-    ensures { Finds result (values_of name.now (map (λ p. (p.name, p.value)) pairs.now)) }
+/// The name at a place.
+fn name(text: &[u8], place: Place) -> &str
+    requires { IsPlace text.now place }
+    ensures { result.now ≡ name_at text.now place }
+{
+    as_text(&text[place.start..place.middle])
+}
+
+/// The value at a place.
+fn value(text: &[u8], place: Place) -> &str
+    requires { IsPlace text.now place }
+    ensures { result.now ≡ value_at text.now place }
+{
+    as_text(&text[place.middle..place.end])
+}
+
+/// Bytes that are UTF-8, as text.
+fn as_text(bytes: &[u8]) -> &str
+    requires { IsUtf8 bytes.now }
+    ensures { result.now ≡ bytes.now }
+{
+    match str::from_utf8(bytes) {
+        Ok(text) => text,
+        Err(_) => "",
+    }
+}
+
+fn push_pair(
+    text: &mut Vec<u8>,
+    places: &mut Vec<Place>,
+    name: &str,
+    value: &str,
+) -> Result<(), AllocError>
+    requires places { ArePlaces text.old.items places.old.items }
+    requires name { IsName name.now }
+    requires value { IsValue value.now }
+    ensures places { ArePlaces text.new.items places.new.items }
+    ensures ok { OnOk result (pairs_at text.new.items places.new.items ≡ pairs_at text.old.items places.old.items ++ (name.now, value.now) ∷ []) }
+    ensures err { OnErr result (pairs_at text.new.items places.new.items ≡ pairs_at text.old.items places.old.items) }
+{
+    let place = push_text(text, name, value)?;
+    places.push(place)?;
+    Ok(())
+}
+
+/// Adds a name and a value to the text, and says where they stand.
+fn push_text(text: &mut Vec<u8>, name: &str, value: &str) -> Result<Place, AllocError>
+    ensures text { OnOk result (text.new.items ≡ text.old.items ++ (name.now ++ value.now)) }
+    ensures place { IfOk result (λ place. place ≡ record {
+      start = length text.old.items;
+      middle = length text.old.items + length name.now;
+      end = length text.old.items + length name.now + length value.now;
+    }) }
+    ensures err { OnErr result (Extends text.old.items text.new.items) }
+{
+    let start = text.len();
+    text.extend_from_slice(name.as_bytes())?;
+    let middle = text.len();
+    text.extend_from_slice(value.as_bytes())?;
+    Ok(Place {
+        start,
+        middle,
+        end: text.len(),
+    })
+}
+
+fn find<'a>(text: &'a [u8], places: &[Place], name: &str) -> Field<'a>
+    requires { ArePlaces text.now places.now }
+    ensures { Finds result (values_of name.now (pairs_at text.now places.now)) }
 {
     let mut found = Field::Absent;
-    for pair in pairs {
-        found = noted(found, pair, name);
+    for place in places {
+        found = noted(found, text, place, name);
     }
     found
 }
 
-/// What was found so far, and a pair after it.
-fn noted<'a>(found: Field<'a>, pair: &'a Pair, name: &str) -> Field<'a>
+/// What was found so far, and the pair at a place after it.
+fn noted<'a>(found: Field<'a>, text: &'a [u8], place: &Place, wanted: &str) -> Field<'a>
+    requires { IsPlace text.now place.now }
     ensures { (values : List (List ℕ)) → Finds found.entry values
-        → Finds result (values ++ values_of name.now ((pair.now.name, pair.now.value) ∷ [])) }
+        → Finds result (values ++ values_of wanted.now (pair_at text.now place.now ∷ [])) }
 {
-    if !pair.name.as_str().eq_ignore_ascii_case(name) {
+    if !name(text, *place).eq_ignore_ascii_case(wanted) {
         return found;
     }
     match found {
-        Field::Absent => Field::Once(pair.value.as_str()),
+        Field::Absent => Field::Once(value(text, *place)),
         Field::Once(_) => Field::Twice,
         Field::Twice => Field::Twice,
     }
 }
 
-fn lines(alloc: Global, pairs: &[Pair]) -> Result<Vec<u8>, AllocError>
-    ensures { IfOk result (λ v. v.items ≡ written (map (λ p. (p.name, p.value)) pairs.now)) }
+fn push_lines(out: &mut Vec<u8>, text: &[u8], places: &[Place]) -> Result<(), AllocError>
+    requires { ArePlaces text.now places.now }
+    ensures { OnOk result (out.new.items ≡ out.old.items ++ written (pairs_at text.now places.now)) }
 {
-    let mut out = Vec::new(alloc);
-    for pair in pairs {
-        push_line(&mut out, pair)?;
+    for place in places {
+        push_line(out, text, *place)?;
     }
-    Ok(out)
+    Ok(())
 }
 
-fn push_line(out: &mut Vec<u8>, pair: &Pair) -> Result<(), AllocError>
-    ensures { OnOk result (out.new.items ≡ out.old.items ++ line_of (pair.now.name, pair.now.value)) }
+fn push_line(out: &mut Vec<u8>, text: &[u8], place: Place) -> Result<(), AllocError>
+    requires { IsPlace text.now place }
+    ensures { OnOk result (out.new.items ≡ out.old.items ++ line_of (pair_at text.now place)) }
 {
-    out.extend_from_slice(pair.name.as_str().as_bytes())?;
+    out.extend_from_slice(&text[place.start..place.middle])?;
     out.extend_from_slice(b": ")?;
-    out.extend_from_slice(pair.value.as_str().as_bytes())?;
+    out.extend_from_slice(&text[place.middle..place.end])?;
     out.extend_from_slice(b"\r\n")?;
     Ok(())
+}
+
+fn lines_len(text: &[u8], places: &[Place]) -> usize
+    requires { ArePlaces text.now places.now }
+    ensures { result ≡ min (length (written (pairs_at text.now places.now))) (2 ^ 64 - 1) }
+{
+    let mut len: usize = 0;
+    for place in places {
+        len = with_line(len, text, *place);
+    }
+    len
+}
+
+/// A length with the line of the pair at a place more.
+fn with_line(len: usize, text: &[u8], place: Place) -> usize
+    requires { IsPlace text.now place }
+    ensures { result ≡ min (len + length (line_of (pair_at text.now place))) (2 ^ 64 - 1) }
+{
+    let name = text[place.start..place.middle].len();
+    let value = text[place.middle..place.end].len();
+    len.saturating_add(name)
+        .saturating_add(value)
+        .saturating_add(4)
 }

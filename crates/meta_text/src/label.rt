@@ -32,6 +32,13 @@ impl Label {
         self.text.as_str()
     }
 
+    /// The text, which takes no memory.
+    pub fn into_string(self) -> String
+        ensures { string_bytes result ≡ self }
+    {
+        self.text
+    }
+
     /// A label with the same text.
     pub fn copy(&self) -> Result<Label, AllocError>
         ensures { IfOk result (λ r. r ≡ self.now) }

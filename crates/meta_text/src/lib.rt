@@ -10,6 +10,7 @@ mod fields;
 mod label;
 pub mod laws;
 mod lines;
+mod place;
 mod reading;
 mod text;
 

@@ -76,6 +76,8 @@ fn fields_by_name(rt: HostRuntime) -> Result<(), Fail> {
     assert_eq!(rt; fields.get("ONE"), Field::Once("1"));
     assert_eq!(rt; fields.get("two"), Field::Twice);
     assert_eq!(rt; fields.get("three"), Field::Absent);
+    let fields = Fields::read(rt.alloc(), b"Type:\n")?;
+    assert_eq!(rt; fields.get("type"), Field::Once(""));
     Ok(())
 }
 
@@ -86,7 +88,7 @@ fn fields_that_are_written(rt: HostRuntime) -> Result<(), Fail> {
         assert!(rt; is_name(name) && is_value(value));
         fields.push(name, value)?;
     }
-    let text = fields.write(rt.alloc())?;
+    let text = fields.write()?;
     assert_eq!(rt;
         text.as_slice(),
         b"Content-Location: a\r\nContent-Length: 2\r\n".as_slice()
@@ -98,5 +100,6 @@ fn fields_that_are_written(rt: HostRuntime) -> Result<(), Fail> {
 fn labels(rt: HostRuntime) -> Result<(), Fail> {
     let label = Label::new(String::from_str(rt.alloc(), "a name")?);
     assert_eq!(rt; label.copy()?.as_str(), "a name");
+    assert_eq!(rt; label.into_string().as_str(), "a name");
     Ok(())
 }

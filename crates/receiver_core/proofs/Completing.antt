@@ -3,10 +3,10 @@ use Rattle.std.proofs.Common.{◌≡◌, ℕ, List, [], ◌∷◌, ◌∙◌, re
 use Rattle.std.specs.Prelude.{option_map}
 use Rattle.std.specs.Option.{option_and_then}
 use Rattle.carousel_cid.specs.Instances.{Shown}
-use Rattle.carousel_cid.specs.Carousel.{kind_of_object}
+use Rattle.carousel_cid.specs.EmptyDescriptor.{kind_of_empty as kind_of_object}
 use Rattle.carousel_cid.specs.declared.file_of.FileOf.{FileOf}
-use Rattle.carousel_cid.specs.declared.kind.Kind.{Kind}
-use Rattle.carousel_cid.specs.declared.kind.Kind.TheVariants.{File, Descriptor, Unusable}
+use Rattle.carousel_cid.specs.declared.empty.EmptyKind.{EmptyKind as Kind}
+use Rattle.carousel_cid.specs.declared.empty.EmptyKind.TheVariants.{File, Descriptor, Unusable}
 use Rattle.receiver_core.specs.Best.{Objects, file_of_kind, file_of, files_of, instance_of_kind, complete}
 
 -- an object that isn't whole announces nothing

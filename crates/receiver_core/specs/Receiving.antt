@@ -3,9 +3,9 @@ use Rattle.std.specs.Prelude.{◌≡◌, ◌≢◌, ℕ, Bool, true, false, List
 use Rattle.std.specs.List.{list_any}
 use Rattle.std.specs.FinMap.{keys}
 use Rattle.carousel_cid.specs.Instances.{Shown}
-use Rattle.carousel_cid.specs.Carousel.{kind_of_object}
-use Rattle.carousel_cid.specs.declared.kind.Kind.{Kind}
-use Rattle.carousel_cid.specs.declared.kind.Kind.TheVariants.{File, Descriptor, Unusable}
+use Rattle.carousel_cid.specs.EmptyDescriptor.{kind_of_empty as kind_of_object}
+use Rattle.carousel_cid.specs.declared.empty.EmptyKind.{EmptyKind as Kind}
+use Rattle.carousel_cid.specs.declared.empty.EmptyKind.TheVariants.{File, Descriptor, Unusable}
 use Rattle.receiver_core.specs.Held.{Held}
 use Rattle.receiver_core.specs.Whole.{whole}
 

@@ -8,7 +8,7 @@ ghost use Rattle.receiver_core.specs.Candidates.{instance_in, is_unbuilt_in, bet
 
 use crate::held_symbol::HeldSymbol;
 use crate::object::whole_object;
-use carousel_cid::{FileList, Instance, Kind, kind_of};
+use carousel_cid::{EmptyKind as Kind, FileList, Instance, kind_of_empty};
 use std::alloc::{AllocError, Global};
 
 /// What the held objects come to.
@@ -73,7 +73,7 @@ fn examine(alloc: Global, symbols: &[HeldSymbol], toi: u128) -> Result<Candidate
     let Some(bytes) = whole_object(alloc, symbols, toi)? else {
         return Ok(Candidate::Nothing);
     };
-    match kind_of(alloc, bytes.as_slice())? {
+    match kind_of_empty(alloc, bytes.as_slice())? {
         Kind::File { .. } => Ok(Candidate::Nothing),
         Kind::Unusable(_) => Ok(Candidate::Unbuilt),
         Kind::Descriptor { number, listed } => {

@@ -1,6 +1,5 @@
 use Rattle.std.proofs.Common.{◌≡◌, ◌≤◌, ◌<◌, ◌⊎◌, length, inl, inr, sym, ap, ◌∙◌, arith}
-use Rattle.std.specs.List.{list_all}
-use Rattle.std.specs.Prelude.{◌==◌}
+use Rattle.wire_bytes.specs.Bytes.{are_zero}
 use Rattle.compound_object.specs.Reading.{header_length, body_start, encoding_in}
 use Rattle.compound_object.proofs.Refusals.{refused_short, refused_version, refused_length, refused_format, refused_gzip, refused_fill, refused_sum, not_refused, filling_is}
 use Rattle.compound_object.proofs.reading.sound_header.Goals as goal
@@ -57,7 +56,7 @@ returns-then-not-is_zero-clause-fault c =
     let plain : encoding_in o ≡ 0 = omega (arith, c.if-bytes-gt1.false, c.if-bytes-eq1.false) in
     let filling = filling_is o c.header_length-header_length.result c.rounded-body_start.result length-is start-is in
     refused_fill o c.if-bytes-lt8.false c.if-bytes-ne0.false least within c.if-bytes-ne0-2.false plain
-    (ap (list_all (λ b. b == 0)) (sym filling) ∙ sym c.if-not-is_zero.ensures)
+    (ap are_zero (sym filling) ∙ sym c.if-not-is_zero.ensures)
 
 pub returns-then-stated-found-clause-fault : goal.returns-then-stated-found-clause-fault
 returns-then-stated-found-clause-fault c =
@@ -68,7 +67,7 @@ returns-then-stated-found-clause-fault c =
     let within : body_start o ≤ length o = omega (arith, c.if-body_start-bytes.false, length-is, start-is) in
     let plain : encoding_in o ≡ 0 = omega (arith, c.if-bytes-gt1.false, c.if-bytes-eq1.false) in
     let filling = filling_is o c.header_length-header_length.result c.rounded-body_start.result length-is start-is in
-    let zeros = ap (list_all (λ b. b == 0)) (sym filling) ∙ sym c.if-not-is_zero.ensures in
+    let zeros = ap are_zero (sym filling) ∙ sym c.if-not-is_zero.ensures in
     let stated = c.stated_sum-stated.ensures in
     let found = c.found_sum-found.ensures in
     rw (stated, found) (refused_sum o c.if-bytes-lt8.false c.if-bytes-ne0.false least within c.if-bytes-ne0-2.false plain zeros (λ e. c.if-stated-found.true (stated ∙ e ∙ sym found)))
@@ -86,6 +85,6 @@ returns-clause-sound c =
       within = omega (arith, c.if-body_start-bytes.false, length-is, start-is);
       format = c.if-bytes-ne0-2.false;
       plain = omega (arith, c.if-bytes-gt1.false, c.if-bytes-eq1.false);
-      zeros = ap (list_all (λ b. b == 0)) (sym filling) ∙ sym c.if-not-is_zero.ensures;
+      zeros = ap are_zero (sym filling) ∙ sym c.if-not-is_zero.ensures;
       sum = sym c.stated_sum-stated.ensures ∙ c.if-stated-found.false ∙ c.found_sum-found.ensures;
     })

@@ -1,0 +1,153 @@
+//! The list of identifiers that is the body of a descriptor.
+ghost use Rattle.std.specs.Prelude.{◌≡◌, ◌+◌, ◌-◌, ◌≤◌, ◌<◌, ◌^◌, ◌∷◌, length, min, Some, None, OnOk, IfOk, IfErr};
+ghost use Rattle.std.specs.List.{range_with_len};
+ghost use Rattle.std.specs.Option.{ForSome};
+ghost use Rattle.carousel_cid.specs.declared.entry.Entry.{Entry};
+ghost use Rattle.carousel_cid.specs.Inner.Listing as specs;
+ghost use Rattle.carousel_cid.specs.IdentifierList.{size_of};
+ghost use Rattle.meta_text.specs.Lines.{without_return};
+ghost use Rattle.carousel_cid.specs.Causes.{list_fault};
+ghost use Rattle.carousel_cid.specs.Repeats.{first_places};
+ghost use Rattle.carousel_cid.specs.Inner.Walks.{texts_from, added, added_all, AreKeysOf};
+
+use crate::entry::{Entry, read_entry};
+use crate::kind::Cause;
+use crate::places::place_of;
+use std::alloc::{AllocError, Global};
+use std::collections::BTreeSet;
+
+/// How many identifiers a descriptor may list, repeats counted.
+const MOST_LISTED: u128 = 4096;
+
+/// How many identifiers a body lists, repeats counted; or what is wrong with it.
+#[tactic(auto, unfolding(crate::specs::Causes::list_fault))]
+pub(crate) fn list_count(body: &[u8]) -> Result<usize, Cause>
+    ensures sound { OnOk result (list_fault body.now ≡ None) }
+    ensures count { IfOk result (λ n. n ≡ specs.count_in (specs.texts_in body.now)) }
+    ensures fault { IfErr result (λ cause. list_fault body.now ≡ Some cause) }
+{
+    let list = without_line_end(body);
+    if list.is_empty() {
+        return Ok(0);
+    }
+    let mut count: u128 = 0;
+    let mut at: usize = 0;
+    while at <= list.len() {
+        let text = text_at(list, at);
+        let Some(entry) = read_entry(text) else {
+            return Err(Cause::BadList { at: at as u64 });
+        };
+        count = counted(count, entry);
+        at += text.len() + 1;
+    }
+    if count > MOST_LISTED {
+        return Err(Cause::ListTooLong);
+    }
+    Ok(count as usize)
+}
+
+/// A count with the identifiers of an entry more. It stays where it has passed the most.
+fn counted(count: u128, entry: Entry) -> u128
+    requires count { count ≤ 4097 }
+    requires last { entry.last < 2 ^ 112 }
+    requires order { entry.first ≤ entry.last }
+    ensures { result ≡ min (count + size_of entry) 4097 }
+{
+    (count + (entry.last - entry.first + 1)).min(MOST_LISTED + 1)
+}
+
+/// The identifiers that a body lists, each at its first place alone. There are at most so many.
+pub(crate) fn identifiers(alloc: Global, body: &[u8], most: usize) -> Result<Vec<u128>, AllocError>
+    ensures { IfOk result (λ v. v.items ≡ first_places (specs.identifiers_in (specs.texts_in body.now))) }
+{
+    let list = without_line_end(body);
+    let mut listed = Vec::with_capacity(alloc, most)?;
+    let mut seen = BTreeSet::new(alloc);
+    if list.is_empty() {
+        return Ok(listed);
+    }
+    let mut at: usize = 0;
+    while at <= list.len() {
+        let text = text_at(list, at);
+        add_entry(&mut listed, &mut seen, read_entry(text))?;
+        at += text.len() + 1;
+    }
+    Ok(listed)
+}
+
+/// Adds the identifiers of an entry that aren't there yet.
+fn add_entry(
+    listed: &mut Vec<u128>,
+    seen: &mut BTreeSet<u128>,
+    entry: Option<Entry>,
+) -> Result<(), AllocError>
+    requires keys { AreKeysOf seen.old listed.old.items }
+    requires fits { ForSome entry (λ e. e.last < 2 ^ 112) }
+    ensures ok { OnOk result (listed.new.items ≡ added_all listed.old.items (specs.range_in entry)) }
+    ensures keys { OnOk result (AreKeysOf seen.new listed.new.items) }
+{
+    match entry {
+        None => Ok(()),
+        Some(entry) => add_range(listed, seen, entry.first, entry.last),
+    }
+}
+
+fn add_range(
+    listed: &mut Vec<u128>,
+    seen: &mut BTreeSet<u128>,
+    first: u128,
+    last: u128,
+) -> Result<(), AllocError>
+    requires keys { AreKeysOf seen.old listed.old.items }
+    requires fits { last < 2 ^ 112 }
+    ensures ok { OnOk result (listed.new.items ≡ added_all listed.old.items (range_with_len first (last + 1 - first))) }
+    ensures keys { OnOk result (AreKeysOf seen.new listed.new.items) }
+{
+    for toi in first..last + 1 {
+        add(listed, seen, toi)?;
+    }
+    Ok(())
+}
+
+fn add(listed: &mut Vec<u128>, seen: &mut BTreeSet<u128>, toi: u128) -> Result<(), AllocError>
+    requires keys { AreKeysOf seen.old listed.old.items }
+    ensures ok { OnOk result (listed.new.items ≡ added listed.old.items toi) }
+    ensures keys { OnOk result (AreKeysOf seen.new listed.new.items) }
+{
+    if seen.insert(toi)? {
+        listed.push(toi)?;
+    }
+    Ok(())
+}
+
+/// The text from this place up to the next comma or the end.
+fn text_at(list: &[u8], at: usize) -> &[u8]
+    requires { at ≤ length list.now }
+    ensures first { texts_from at list.now ≡ result.now ∷ texts_from (at + length result.now + 1) list.now }
+    ensures within { at + length result.now ≤ length list.now }
+{
+    let rest = &list[at..];
+    match place_of(rest, b',') {
+        Some(comma) => &rest[..comma],
+        None => rest,
+    }
+}
+
+/// The body without one end of line at its end: a line feed, or a carriage return and a line feed.
+fn without_line_end(body: &[u8]) -> &[u8]
+    ensures { result.now ≡ specs.without_line_end body.now }
+{
+    match body {
+        [front @ .., b'\n'] => without_return(front),
+        _ => body,
+    }
+}
+
+fn without_return(line: &[u8]) -> &[u8]
+    ensures { result.now ≡ without_return line.now }
+{
+    match line {
+        [front @ .., b'\r'] => front,
+        _ => line,
+    }
+}

@@ -1,0 +1,3 @@
+-- What other crates may cite of this crate's proofs.
+pub use Rattle.compound_object.proofs.Layouts.{reading-spelled, SpellsObject-written}
+pub use Rattle.compound_object.proofs.Spelled.{spelled-reading}
