@@ -1,0 +1,10 @@
+pub mod Bare
+pub mod Counts
+pub mod Dots
+pub mod Numbers
+pub mod Parsers
+pub mod Readings
+pub mod Scans
+pub mod Shapes
+pub mod Texts
+pub mod Walks

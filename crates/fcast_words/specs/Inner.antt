@@ -1,0 +1,4 @@
+pub mod Dots
+pub mod Matches
+pub mod Parser
+pub mod Scan
