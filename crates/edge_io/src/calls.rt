@@ -1,7 +1,7 @@
 //! The calls of an object that are stated to fail.
 
-ghost use Rattle.std.specs.Prelude.{◌≡◌, ◌≤◌, IsTrue};
-ghost use Rattle.edge_io.specs.Faults.{Rose};
+ghost use Rattle.std.specs.Prelude.{◌≡◌, ◌≤◌, IsTrue, false};
+ghost use Rattle.edge_io.specs.Faults.{Rose, one_more};
 ghost use Rattle.edge_io.specs.StatedCalls.{fails_next, IsNextCall};
 
 /// Counts the calls of one object, over all its methods, and fails those that are stated.
@@ -33,6 +33,8 @@ impl Calls {
     pub fn fails_now(&mut self) -> bool
         ensures fails { result ≡ fails_next self.old }
         ensures next { IsNextCall self.old self.new }
+        ensures fault { IsTrue result → self.new.failed ≡ one_more self.old.failed }
+        ensures quiet { result ≡ false → self.new.failed ≡ self.old.failed }
         ensures rose { IsTrue result → Rose self.old.failed self.new.failed }
         ensures grows { self.old.failed ≤ self.new.failed }
     {

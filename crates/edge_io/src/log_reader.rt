@@ -44,7 +44,8 @@ pub enum Found {
 /// the item that was being read begins, and no more is read.
 #[derive(Drop)]
 pub struct LogReader<B: Bytes> {
-    source: B,
+    /// The source of bytes.
+    pub source: B,
     connected: Option<Place>,
     stage: Stage,
 }

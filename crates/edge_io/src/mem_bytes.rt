@@ -1,7 +1,7 @@
 //! Bytes in memory that fail at stated calls.
 
 ghost use Rattle.std.specs.Prelude.{◌≡◌, length, drop, ◌+◌, ◌≤◌, ◌<◌, ◌^◌, min, slice_index_or, vec_len, All, IfOk, OnOk, IsErr, IsTrue, ◌↔◌};
-ghost use Rattle.edge_io.specs.Faults.{Rose};
+ghost use Rattle.edge_io.specs.Faults.{Rose, one_more};
 ghost use Rattle.edge_io.specs.Reads.{Reads};
 ghost use Rattle.edge_io.specs.StatedCalls.{fails_next, IsNextCall};
 
@@ -77,8 +77,12 @@ impl Bytes for MemBytes {
         ensures size { IfOk result (λ n. n ≡ min (length (drop self.old.source.at self.old.source.bytes.items)) (min (length out.new) (slice_index_or self.old.sizes.items self.old.used (length out.new)))) }
         ensures used { OnOk result (self.new.used ≡ min (self.old.used + 1) (vec_len self.old.sizes)) }
         ensures sizes { self.new.sizes ≡ self.old.sizes }
+        ensures kept { IsErr result → self.new.source ≡ self.old.source }
+        ensures unused { IsErr result → self.new.used ≡ self.old.used }
         ensures exact { IsErr result ↔ IsTrue (fails_next self.old.calls) }
         ensures next { IsNextCall self.old.calls self.new.calls }
+        ensures fault { IsErr result → self.new.calls.failed ≡ one_more self.old.calls.failed }
+        ensures quiet { OnOk result (self.new.calls.failed ≡ self.old.calls.failed) }
         ensures rose { IsErr result → Rose self.old.calls.failed self.new.calls.failed }
         ensures grows { self.old.calls.failed ≤ self.new.calls.failed }
     {

@@ -1,7 +1,7 @@
 //! Datagrams in memory that fail at stated calls.
 
-ghost use Rattle.std.specs.Prelude.{◌≡◌, Option, Some, None, map, drop, length, ◌≤◌, All, vec_len, OnOk, OnErr, IsErr, IsTrue, ◌↔◌};
-ghost use Rattle.edge_io.specs.Faults.{Rose};
+ghost use Rattle.std.specs.Prelude.{◌≡◌, ◌≢◌, Option, Some, None, map, drop, length, ◌≤◌, All, vec_len, OnOk, OnErr, IsErr, IsTrue, ◌↔◌};
+ghost use Rattle.edge_io.specs.Faults.{Rose, one_more};
 ghost use Rattle.edge_io.specs.Nexts.{Answers, IsWithin};
 ghost use Rattle.edge_io.specs.StatedCalls.{fails_next, IsNextCall};
 
@@ -53,8 +53,11 @@ impl Datagrams for MemDatagrams {
         ensures left { self.new.source.at ≡ self.old.source.at }
         ensures datagrams { self.new.source.datagrams ≡ self.old.source.datagrams }
         ensures torn { self.new.source.torn ≡ self.old.source.torn }
+        ensures kept { OnErr result (self.new.source ≡ self.old.source) }
         ensures exact { IsErr result ↔ IsTrue (fails_next self.old.calls) }
         ensures next { IsNextCall self.old.calls self.new.calls }
+        ensures fault { OnErr result (self.new.calls.failed ≡ one_more self.old.calls.failed) }
+        ensures quiet { OnOk result (self.new.calls.failed ≡ self.old.calls.failed) }
         ensures rose { OnErr result (Rose self.old.calls.failed self.new.calls.failed) }
         ensures grows { self.old.calls.failed ≤ self.new.calls.failed }
     {
@@ -74,8 +77,11 @@ impl Datagrams for MemDatagrams {
             (Unit {0}) }
         ensures short { All (λ d. length d ≤ 65535) (map (λ d. d.items) (drop self.old.source.at self.old.source.datagrams.items)) }
         ensures place { self.new.source.connected ≡ self.old.source.connected }
+        ensures kept { result ≡ Next.Failed → self.new.source ≡ self.old.source }
         ensures exact { (result ≡ Next.Failed) ↔ IsTrue (fails_next self.old.calls) }
         ensures next { IsNextCall self.old.calls self.new.calls }
+        ensures fault { result ≡ Next.Failed → self.new.calls.failed ≡ one_more self.old.calls.failed }
+        ensures quiet { result ≢ Next.Failed → self.new.calls.failed ≡ self.old.calls.failed }
         ensures rose { result ≡ Next.Failed → Rose self.old.calls.failed self.new.calls.failed }
         ensures grows { self.old.calls.failed ≤ self.new.calls.failed }
     {

@@ -2,7 +2,7 @@
 
 ghost use Rattle.std.specs.Prelude.{◌≡◌, [], Option, ◌≤◌, OnOk, OnErr, IsErrOf, IsTrue, ◌↔◌};
 ghost use Rattle.std.specs.Option.{option_copied};
-ghost use Rattle.edge_io.specs.Faults.{Rose};
+ghost use Rattle.edge_io.specs.Faults.{Rose, one_more};
 ghost use Rattle.edge_io.specs.Shelved.{part_of, with_file, finished};
 ghost use Rattle.edge_io.specs.StatedCalls.{fails_next, IsNextCall};
 ghost use Rattle.edge_io.specs.MemShelves.{shelf_holds};
@@ -70,6 +70,9 @@ impl Shelf for MemShelf {
         ensures err { OnErr result (shelf_holds self.new.shelf ≡ shelf_holds self.old.shelf) }
         ensures exact { IsErrOf result Trouble.Failed ↔ IsTrue (fails_next self.old.calls) }
         ensures next { IsNextCall self.old.calls self.new.calls }
+        ensures fault { IsErrOf result Trouble.Failed → self.new.calls.failed ≡ one_more self.old.calls.failed }
+        ensures quiet { OnOk result (self.new.calls.failed ≡ self.old.calls.failed) }
+        ensures wants { IsErrOf result Trouble.Memory → self.new.calls.failed ≡ self.old.calls.failed }
         ensures rose { IsErrOf result Trouble.Failed → Rose self.old.calls.failed self.new.calls.failed }
         ensures grows { self.old.calls.failed ≤ self.new.calls.failed }
     {
@@ -84,6 +87,9 @@ impl Shelf for MemShelf {
         ensures err { OnErr result (shelf_holds self.new.shelf ≡ shelf_holds self.old.shelf) }
         ensures exact { IsErrOf result Trouble.Failed ↔ IsTrue (fails_next self.old.calls) }
         ensures next { IsNextCall self.old.calls self.new.calls }
+        ensures fault { IsErrOf result Trouble.Failed → self.new.calls.failed ≡ one_more self.old.calls.failed }
+        ensures quiet { OnOk result (self.new.calls.failed ≡ self.old.calls.failed) }
+        ensures wants { IsErrOf result Trouble.Memory → self.new.calls.failed ≡ self.old.calls.failed }
         ensures rose { IsErrOf result Trouble.Failed → Rose self.old.calls.failed self.new.calls.failed }
         ensures grows { self.old.calls.failed ≤ self.new.calls.failed }
     {
@@ -98,6 +104,9 @@ impl Shelf for MemShelf {
         ensures err { OnErr result (shelf_holds self.new.shelf ≡ shelf_holds self.old.shelf) }
         ensures exact { IsErrOf result Trouble.Failed ↔ IsTrue (fails_next self.old.calls) }
         ensures next { IsNextCall self.old.calls self.new.calls }
+        ensures fault { IsErrOf result Trouble.Failed → self.new.calls.failed ≡ one_more self.old.calls.failed }
+        ensures quiet { OnOk result (self.new.calls.failed ≡ self.old.calls.failed) }
+        ensures wants { IsErrOf result Trouble.Memory → self.new.calls.failed ≡ self.old.calls.failed }
         ensures rose { IsErrOf result Trouble.Failed → Rose self.old.calls.failed self.new.calls.failed }
         ensures grows { self.old.calls.failed ≤ self.new.calls.failed }
     {

@@ -1,7 +1,7 @@
 //! A text in memory that fails at stated calls.
 
 ghost use Rattle.std.specs.Prelude.{◌≡◌, ◌++◌, ◌≤◌, OnOk, OnErr, IsErrOf, IsTrue, ◌↔◌};
-ghost use Rattle.edge_io.specs.Faults.{Rose};
+ghost use Rattle.edge_io.specs.Faults.{Rose, one_more};
 ghost use Rattle.edge_io.specs.StatedCalls.{fails_next, IsNextCall};
 
 use crate::{Calls, SureText, Text, Trouble};
@@ -50,6 +50,9 @@ impl Text for MemText {
         ensures err { OnErr result (self.new.text.bytes.items ≡ self.old.text.bytes.items) }
         ensures exact { IsErrOf result Trouble.Failed ↔ IsTrue (fails_next self.old.calls) }
         ensures next { IsNextCall self.old.calls self.new.calls }
+        ensures fault { IsErrOf result Trouble.Failed → self.new.calls.failed ≡ one_more self.old.calls.failed }
+        ensures quiet { OnOk result (self.new.calls.failed ≡ self.old.calls.failed) }
+        ensures wants { IsErrOf result Trouble.Memory → self.new.calls.failed ≡ self.old.calls.failed }
         ensures rose { IsErrOf result Trouble.Failed → Rose self.old.calls.failed self.new.calls.failed }
         ensures grows { self.old.calls.failed ≤ self.new.calls.failed }
     {

@@ -1,5 +1,9 @@
 ghost use Rattle.std.specs.Prelude.{◌≡◌, ◌≤◌, length, vec_len, All, IfOk};
 
+mod devices;
+mod folder;
+mod real_forms;
+
 use super::*;
 use std::alloc::{AllocError, Global};
 use std::process::Abort;
@@ -252,17 +256,5 @@ fn sure_text_and_shelf_never_fail(rt: HostRuntime) -> Result<(), Fail> {
     assert_eq!(rt; shelf.begin(3), Ok(()));
     assert_eq!(rt; shelf.finish(b""), Ok(()));
     assert_eq!(rt; shelf.finished().map(|i| i.number()), Some(3));
-    Ok(())
-}
-
-#[test]
-fn real_forms_read_and_write(rt: HostRuntime) -> Result<(), Fail> {
-    let alloc = rt.alloc();
-    let mut out = [0u8; 4];
-    let mut source = ReaderBytes::new(b"hi".as_slice());
-    assert_eq!(rt; source.read(&mut out), Ok(2));
-    assert_eq!(rt; source.read(&mut out), Ok(0));
-    let mut text = WriterText::new(Vec::new(alloc));
-    assert_eq!(rt; text.write(b"hi"), Ok(()));
     Ok(())
 }

@@ -1,5 +1,5 @@
-ghost use Rattle.std.specs.Prelude.{◌≡◌, ◌+◌, ◌-◌, ◌^◌, ◌≤◌, ℕ, List, [], ◌∷◌, ◌++◌, OnOk, OnErr, IsErrOf, None, slice_get, min};
-ghost use Rattle.edge_io.specs.Faults.{Rose};
+ghost use Rattle.std.specs.Prelude.{◌≡◌, ◌+◌, ◌-◌, ◌^◌, ◌≤◌, [], OnOk, OnErr, IsErr, IsErrOf};
+ghost use Rattle.edge_io.specs.Faults.{Rose, one_more};
 
 use crate::{Event, Unheard, Watch};
 
@@ -36,10 +36,21 @@ impl Watch for Counter {
 
     ghost faults = { λ s. s.failed };
 
-    ghost refuses = { λ s _ n. (s.count ≡ 2 ^ 64 - 1) × (n ≡ min (s.failed + 1) (2 ^ 64 - 1)) };
+    ghost refuses = { λ s _ n. (s.count ≡ 2 ^ 64 - 1) × (n ≡ one_more s.failed) };
 
-    /// It is deaf exactly where its count is full, and never wants memory.
-    fn hear(&mut self, _event: &Event) -> Result<(), Unheard> {
+    /// It is deaf exactly where its count is full, and never wants memory. A fault is counted
+    /// where it is deaf, and nowhere else.
+    fn hear(&mut self, _event: &Event) -> Result<(), Unheard>
+        ensures number { OnOk result (self.new.count ≡ self.old.count + 1) }
+        ensures same_number { OnErr result (self.new.count ≡ self.old.count) }
+        ensures full { self.old.count ≡ 2 ^ 64 - 1 → IsErrOf result Unheard.Deaf }
+        ensures only_full { OnErr result (self.old.count ≡ 2 ^ 64 - 1) }
+        ensures deaf { IsErr result → IsErrOf result Unheard.Deaf }
+        ensures fault { OnErr result (self.new.failed ≡ one_more self.old.failed) }
+        ensures quiet { OnOk result (self.new.failed ≡ self.old.failed) }
+        ensures rose { OnErr result (Rose self.old.failed self.new.failed) }
+        ensures grows { self.old.failed ≤ self.new.failed }
+    {
         match self.count.checked_add(1) {
             Some(count) => {
                 self.count = count;

@@ -1,0 +1,74 @@
+//! A reader and a writer that are cut short and fail at stated calls.
+
+use crate::{Bytes, SureBytes};
+use std::io;
+use std::io::{ErrorKind, Read, Write};
+
+/// The calls of a device that fail, counted from 1, and how.
+#[derive(Clone, Copy, Drop)]
+pub struct Fault {
+    pub first: u32,
+    pub last: u32,
+    pub kind: ErrorKind,
+}
+
+impl Fault {
+    /// Whether the call of this number fails.
+    fn holds(&self, call: u32) -> bool {
+        self.first <= call && call <= self.last
+    }
+}
+
+/// A reader that gives at most `size` bytes a call.
+#[derive(Drop)]
+pub struct FaultyReader {
+    pub source: SureBytes,
+    pub size: usize,
+    pub fault: Fault,
+    pub call: u32,
+}
+
+impl Read for FaultyReader {
+    fn read(&mut self, out: &mut [u8]) -> io::Result<usize> {
+        self.call = self.call.saturating_add(1);
+        if self.fault.holds(self.call) {
+            return Err(io::Error::from(self.fault.kind));
+        }
+        let most = out.len().min(self.size);
+        match self.source.read(&mut out[..most]) {
+            Ok(count) => Ok(count),
+            Err(_) => Ok(0),
+        }
+    }
+}
+
+/// A writer that takes at most `size` bytes a call. Its flushes fail as its calls do.
+#[derive(Drop)]
+pub struct FaultyWriter {
+    pub bytes: Vec<u8>,
+    pub size: usize,
+    pub fault: Fault,
+    pub call: u32,
+    pub flushes: u32,
+}
+
+impl Write for FaultyWriter {
+    fn write(&mut self, bytes: &[u8]) -> io::Result<usize> {
+        self.call = self.call.saturating_add(1);
+        if self.fault.holds(self.call) {
+            return Err(io::Error::from(self.fault.kind));
+        }
+        let most = bytes.len().min(self.size);
+        self.bytes.extend_from_slice(&bytes[..most])?;
+        Ok(most)
+    }
+
+    fn flush(&mut self) -> io::Result<()> {
+        self.call = self.call.saturating_add(1);
+        if self.fault.holds(self.call) {
+            return Err(io::Error::from(self.fault.kind));
+        }
+        self.flushes = self.flushes.saturating_add(1);
+        Ok(())
+    }
+}
