@@ -1,6 +1,4 @@
 pub mod Packets
-pub mod FirstForms
-pub mod Values
 pub mod Lines
 pub mod Readings
 pub mod Saying

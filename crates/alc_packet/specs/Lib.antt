@@ -5,6 +5,5 @@ pub mod Refusal
 pub mod Code
 pub mod Answer
 pub mod Writing
-pub mod FirstForm
 pub mod Reply
 pub mod Inner

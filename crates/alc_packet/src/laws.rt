@@ -4,10 +4,8 @@ ghost use Rattle.std.specs.Prelude.{◌≡◌, List, ℕ, Result};
 ghost use Rattle.wire_bytes.specs.Bytes.{AreBytes};
 ghost use Rattle.alc_packet.specs.declared.datagram.Datagram.{Datagram};
 ghost use Rattle.alc_packet.specs.declared.refusal.Refusal.{Refusal};
-ghost use Rattle.alc_packet.specs.Packet.{SymbolPacket, full};
 ghost use Rattle.alc_packet.specs.Answer.{Says};
 ghost use Rattle.alc_packet.specs.Reply.{reply};
-ghost use Rattle.alc_packet.specs.FirstForm.{IsFirstForm};
 
 /// Of each datagram exactly one holds: it spells exactly one packet, it spells exactly one control, exactly one refusal
 /// holds of it.
@@ -15,14 +13,4 @@ pub fn one_reading()
     ensures some { (d : List ℕ) → AreBytes d → (answer : Result Datagram Refusal) × Says d answer }
     ensures alone { (d : List ℕ) (a b : Result Datagram Refusal) → Says d a → Says d b → a ≡ b }
     ensures computed { (d : List ℕ) (answer : Result Datagram Refusal) → Says d answer → reply d ≡ answer }
-{}
-
-/// No bytes are the first form of two packets.
-pub fn one_packet()
-    ensures { (d : List ℕ) (p q : SymbolPacket) → IsFirstForm d p → IsFirstForm d q → p ≡ q }
-{}
-
-/// In the first form the symbol is whole: nothing is filled in.
-pub fn symbol_is_full()
-    ensures { (d : List ℕ) (p : SymbolPacket) → IsFirstForm d p → full p ≡ p.symbol }
 {}

@@ -3,7 +3,6 @@
 #![tactic(auto)]
 
 mod datagram;
-mod first_form;
 pub mod laws;
 mod making;
 mod reading;
@@ -11,12 +10,9 @@ mod refusal;
 mod writing;
 
 pub use datagram::{Datagram, Packet};
-pub use first_form::{NotYet, read_first_form};
 pub use reading::read;
 pub use refusal::Refusal;
 pub use writing::write;
 
-#[cfg(test)]
-mod first_form_tests;
 #[cfg(test)]
 mod tests;

@@ -1,6 +1,5 @@
 pub mod Digits
 pub mod Values
-pub mod Descriptors
 pub mod Numbers
 pub mod Entries
 pub mod Texts

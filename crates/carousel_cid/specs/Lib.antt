@@ -8,5 +8,4 @@ pub mod Descriptor
 pub mod Causes
 pub mod Kinds
 pub mod Instances
-pub mod EmptyDescriptor
 pub mod Inner

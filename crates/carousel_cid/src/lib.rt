@@ -1,7 +1,6 @@
 //! Files, carousel instance descriptors and installed instances (RFC 6968, section 3).
 #![tactic(auto)]
 
-mod empty;
 mod entry;
 mod file_list;
 mod file_of;
@@ -17,7 +16,6 @@ mod reading;
 mod tests;
 mod writing;
 
-pub use empty::{EmptyKind, NotYet, kind_of_empty};
 pub use file_list::FileList;
 pub use file_of::FileOf;
 pub use identifiers::Identifiers;

@@ -6,7 +6,6 @@ use std::alloc::{AllocError, Global};
 use std::test::Fail;
 
 mod causes;
-mod empty_descriptors;
 mod lists;
 
 /// A file under the location `a`, with the body `hi`.

@@ -8,7 +8,7 @@ use Rattle.carousel_cid.specs.declared.file_of.FileOf.{FileOf}
 use Rattle.fcast_run.specs.Outcome.{put_of}
 use Rattle.fcast_run.specs.Endings.{AcceptsPart, AcceptsFewer}
 
-after-append : (cs ds : List Call) (s : Shelved) → after (cs ++ ds) s ≡ after ds (after cs s)
+pub after-append : (cs ds : List Call) (s : Shelved) → after (cs ++ ds) s ≡ after ds (after cs s)
 after-append [] ds s = refl
 after-append (c ∷ cs) ds s = after-append cs ds (after_call c s)
 

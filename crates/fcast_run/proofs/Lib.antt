@@ -1,3 +1,7 @@
+pub mod Answered
+pub mod Headline
 pub mod Installing
-pub mod Nothing
-pub mod Outcomes
+pub mod Lists
+pub mod Ranges
+pub mod Statuses
+pub mod Taking

@@ -2,20 +2,26 @@
 use Rattle.std.specs.Prelude.{◌≡◌, ◌≢◌, ◌==◌, ℕ, ◌<◌, Bool, List, [], ◌∷◌, ◌++◌, length, take}
 use Rattle.std.specs.List.{list_any}
 use Rattle.edge_io.specs.Shelved.{Shelved}
-use Rattle.fcast_run.specs.declared.fault.Fault.{Fault}
-use Rattle.fcast_run.specs.declared.fault.Fault.TheVariants.{Datagrams, Text, Shelf, Memory}
 use Rattle.edge_io.specs.ShelfCalls.{Call, after}
+
+abbrev pub is_one_of : List ℕ → ℕ → Bool
+is_one_of statuses s = list_any (λ t. t == s) statuses
+
+-- the statuses of a list that was taken
+abbrev pub is_base : ℕ → Bool
+is_base s = is_one_of (0 ∷ 2 ∷ 3 ∷ 7 ∷ 11 ∷ []) s
 
 -- the statuses of a run
 abbrev pub is_status : ℕ → Bool
-is_status s = list_any (λ t. t == s) (0 ∷ 1 ∷ 2 ∷ 4 ∷ 5 ∷ 6 ∷ 9 ∷ 14 ∷ [])
+is_status s = is_one_of (0 ∷ 1 ∷ 2 ∷ 3 ∷ 4 ∷ 5 ∷ 6 ∷ 7 ∷ 9 ∷ 11 ∷ []) s
 
--- the status of each fault
-abbrev pub status_of : Fault → ℕ
-status_of Datagrams = 4
-status_of Text = 5
-status_of Shelf = 6
-status_of Memory = 9
+-- those at which the shelf isn't touched, whatever is told
+abbrev pub is_apart : ℕ → Bool
+is_apart s = is_one_of (1 ∷ 2 ∷ 3 ∷ 4 ∷ 11 ∷ []) s
+
+-- those at which the list was read to its end
+abbrev pub is_at_end : ℕ → Bool
+is_at_end s = is_one_of (0 ∷ 2 ∷ 7 ∷ []) s
 
 -- the run came to its end: no device failed, and there was memory
 pub record IsDone (status : ℕ) : Type 0 where

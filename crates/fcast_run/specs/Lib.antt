@@ -1,5 +1,6 @@
 pub mod Texts
-pub mod Words
+pub mod Commands
 pub mod Outcome
 pub mod Endings
-pub mod Found
+pub mod Headline
+pub mod Inner

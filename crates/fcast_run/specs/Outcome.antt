@@ -1,90 +1,71 @@
--- The outcome of a run: its status, what `text` gets, and the calls that the shelf gets.
-use Rattle.std.specs.Prelude.{ℕ, ◌&&◌, ◌||◌, Bool, true, false, not, nat_lt, if◌then◌else◌, List, [], ◌∷◌, ◌++◌, length, map, Option, Some, None, is_some, option_map}
-use Rattle.std.specs.Option.{option_and_then}
-use Rattle.std.specs.List.{fold}
+-- The outcome of a list of datagrams that is taken: the status of the run, what `text` gets, the calls that the shelf
+-- gets, and the place where the datagrams come from.
+use Rattle.std.specs.Prelude.{ℕ, ◌==◌, nat_lt, if◌then◌else◌, List, [], ◌∷◌, ◌++◌, length, take, map, Option, Some, None, is_some}
 use Rattle.edge_io.specs.ShelfCalls.{Call, Begin, Put, Finish}
+use Rattle.edge_io.specs.declared.place.Place.{Place}
+use Rattle.edge_io.specs.declared.place.Place.TheVariants.{Log}
 use Rattle.alc_packet.specs.Packet.{SymbolPacket}
-use Rattle.alc_packet.specs.FirstForm.{reading}
 use Rattle.carousel_cid.specs.Instances.{Shown}
 use Rattle.carousel_cid.specs.declared.file_of.FileOf.{FileOf}
-use Rattle.receiver_core.specs.Held.{Held, nothing_held}
-use Rattle.receiver_core.specs.Count.{Verdict, New, Repeat, Spare, OtiDiffers, SymbolDiffers, OverBudget, verdict, step}
-use Rattle.receiver_core.specs.Best.{best}
-use Rattle.receiver_core.specs.Receiving.{has_unbuilt}
-use Rattle.fcast_run.specs.Texts.{usage_line, not_yet_line, nothing_line, manifest}
-use Rattle.fcast_run.specs.Words.{is_replay}
-
--- the session that a run without options takes, its budget, and how many datagrams it takes
-abbrev pub default_tsi : ℕ
-default_tsi = 1
-
-abbrev pub default_budget : ℕ
-default_budget = 67108864
-
-abbrev pub most_datagrams : ℕ
-most_datagrams = 1000
+use Rattle.object_store.specs.KeptSet.{drops}
+use Rattle.receiver_core.specs.Classes.{packets_of}
+use Rattle.receiver_core.specs.Best.{installed_after}
+use Rattle.fcast_run.specs.Texts.{manifest, best_lines, over_line, ending_line}
+use Rattle.fcast_run.specs.declared.ending.Ending.{Ending}
+use Rattle.fcast_run.specs.declared.ending.Ending.TheVariants.{End, Torn, TooMany}
+use Rattle.fcast_run.specs.declared.settings.Settings.{Settings}
 
 pub record Outcome : Type 0 where
   pub status : ℕ
   pub report : List ℕ
   pub calls : List Call
+  pub place : Place
+
+-- read to its end: 7 where a packet was over the budget, else by whether an instance is installed
+abbrev pub end_status : ℕ → Option Shown → ℕ
+end_status drops installed = if drops == 0 then (if is_some installed then 0 else 2) else 7
+
+abbrev pub base_status : Ending → ℕ → Option Shown → ℕ
+base_status End drops installed = end_status drops installed
+base_status (Torn at) drops installed = 3
+base_status TooMany drops installed = 11
 
 abbrev pub put_of : FileOf → Call
 put_of f = Put f.toi f.body
 
 -- the calls that install an instance
-abbrev pub installing : Shown → List Call
-installing i = Begin i.number ∷ (map put_of i.files ++ Finish (manifest i) ∷ [])
+abbrev pub installing : Option Shown → List Call
+installing None = []
+installing (Some i) = Begin i.number ∷ (map put_of i.files ++ Finish (manifest i) ∷ [])
 
--- the words are no command
-abbrev pub usage : Outcome
-usage = record { status = 1; report = usage_line; calls = [] }
+-- the shelf is touched where the list was read to its end alone
+abbrev pub calls_of : Ending → Option Shown → List Call
+calls_of End installed = installing installed
+calls_of (Torn at) installed = []
+calls_of TooMany installed = []
 
--- the input has a form that isn't built yet
-abbrev pub not_built : Outcome
-not_built = record { status = 14; report = not_yet_line; calls = [] }
+-- of a list from this place: how its taking ended, how many packets were over the budget, and what is installed
+abbrev pub outcome_of : Place → Ending → ℕ → Option Shown → Outcome
+outcome_of place ending drops installed = record {
+  status = base_status ending drops installed;
+  report = best_lines installed ++ (over_line drops ++ ending_line ending);
+  calls = calls_of ending installed;
+  place = place;
+}
 
--- the list was read to its end, with this best instance
-abbrev pub read_to_end : Option Shown → Outcome
-read_to_end None = record { status = 2; report = nothing_line; calls = [] }
-read_to_end (Some i) = record { status = 0; report = manifest i; calls = installing i }
+abbrev pub ending_at : Option ℕ → Ending
+ending_at None = End
+ending_at (Some at) = Torn at
 
--- the packets that the datagrams spell, where each spells one of the first form
-abbrev pub readings : List (List ℕ) → Option (List SymbolPacket)
-readings [] = Some []
-readings (d ∷ ds) = option_and_then (λ p. option_map (λ ps. p ∷ ps) (readings ds)) (reading d)
+-- how the taking of at most so many of the datagrams that are left ends, where their log is torn there
+abbrev pub ending_of : ℕ → List (List ℕ) → Option ℕ → Ending
+ending_of most left torn = if nat_lt most (length left) then TooMany else ending_at torn
 
-abbrev pub is_built_verdict : Verdict → Bool
-is_built_verdict New = true
-is_built_verdict Repeat = true
-is_built_verdict Spare = false
-is_built_verdict (OtiDiffers o) = false
-is_built_verdict (SymbolDiffers at) = false
-is_built_verdict (OverBudget count charge) = false
+-- the packets of a replay's session among the datagrams that it takes
+abbrev pub packets_taken : Settings → List (List ℕ) → List SymbolPacket
+packets_taken c left = packets_of c.tsi (take c.most left)
 
--- the packet is new or a repeat, and makes no object ready that isn't read yet
-abbrev pub is_built : Held → SymbolPacket → Bool
-is_built held p = is_built_verdict (verdict default_budget held p) && not (has_unbuilt (step default_budget held p))
-
--- each of the packets is such a one, after those before it
-abbrev pub are_built : Held → List SymbolPacket → Bool
-are_built held [] = true
-are_built held (p ∷ ps) = is_built held p && are_built (step default_budget held p) ps
-
-abbrev pub outcome_of_packets : ℕ → Held → Option ℕ → Option (List SymbolPacket) → Outcome
-outcome_of_packets most held torn None = not_built
-outcome_of_packets most held torn (Some ps) =
-    if nat_lt most (length ps) || is_some torn || not (are_built held ps) then not_built
-    else read_to_end (best (fold (step default_budget) held ps))
-
--- of a receiver that holds this and takes so many datagrams more, where these are left
-unfoldable pub outcome_from : ℕ → Held → List (List ℕ) → Option ℕ → Outcome
-outcome_from most held left torn = outcome_of_packets most held torn (readings left)
-
--- of a replay of these datagrams, where the log is torn there
-abbrev pub replayed : List (List ℕ) → Option ℕ → Outcome
-replayed left torn = outcome_from most_datagrams nothing_held left torn
-
--- of a run with these words
-abbrev pub outcome : List (List ℕ) → List (List ℕ) → Option ℕ → Outcome
-outcome words left torn = if is_replay words then replayed left torn else usage
+-- of a replay of the datagrams that are left, where their log is torn there
+unfoldable pub replayed : Settings → List (List ℕ) → Option ℕ → Outcome
+replayed c left torn =
+    outcome_of Log (ending_of c.most left torn) (drops c.budget (packets_taken c left)) (installed_after c.budget (packets_taken c left))

@@ -1,9 +1,11 @@
 -- The texts of a run. Each line ends with a line feed, and numbers are decimal.
-use Rattle.std.specs.Prelude.{ℕ, List, [], ◌∷◌, ◌++◌, length, Option, Some, None, codes}
+use Rattle.std.specs.Prelude.{ℕ, ◌==◌, if◌then◌else◌, List, [], ◌∷◌, ◌++◌, length, Option, Some, None, codes}
 use Rattle.std.specs.List.{flat_map}
 use Rattle.std.specs.Fmt.{decimal}
 use Rattle.carousel_cid.specs.Instances.{Shown}
 use Rattle.carousel_cid.specs.declared.file_of.FileOf.{FileOf}
+use Rattle.fcast_run.specs.declared.ending.Ending.{Ending}
+use Rattle.fcast_run.specs.declared.ending.Ending.TheVariants.{End, Torn, TooMany}
 
 abbrev pub line : List ℕ → List ℕ
 line text = text ++ 10 ∷ []
@@ -14,12 +16,6 @@ number_line label number = label ++ decimal number ++ 10 ∷ []
 
 abbrev pub usage_line : List ℕ
 usage_line = line (codes "usage: replay, recv, send, dump, drill or listen")
-
-abbrev pub not_yet_line : List ℕ
-not_yet_line = line (codes "not yet")
-
-abbrev pub nothing_line : List ℕ
-nothing_line = line (codes "nothing installed")
 
 abbrev pub kind_line : Option (List ℕ) → List ℕ
 kind_line None = []
@@ -36,3 +32,18 @@ unfoldable pub manifest : Shown → List ℕ
 manifest i =
     number_line (codes "instance ") i.number ++ number_line (codes "descriptor ") i.descriptor_toi
     ++ number_line (codes "files ") (length i.files) ++ flat_map file_lines i.files
+
+-- the report's first lines: what is installed
+abbrev pub best_lines : Option Shown → List ℕ
+best_lines None = line (codes "nothing installed")
+best_lines (Some i) = manifest i
+
+-- how many packets were over the budget, where any was
+abbrev pub over_line : ℕ → List ℕ
+over_line drops = if drops == 0 then [] else number_line (codes "over budget ") drops
+
+-- why the list wasn't read to its end, where it wasn't
+abbrev pub ending_line : Ending → List ℕ
+ending_line End = []
+ending_line (Torn at) = number_line (codes "torn at ") at
+ending_line TooMany = line (codes "too many datagrams")

@@ -1,5 +1,5 @@
-ghost use Rattle.std.specs.Prelude.{◌≡◌, true};
-ghost use Rattle.fcast_run.specs.Endings.{status_of, is_status};
+ghost use Rattle.std.specs.Prelude.{◌≡◌};
+ghost use Rattle.fcast_run.specs.Inner.Answers.{status_of};
 
 use std::alloc::AllocError;
 
@@ -19,8 +19,7 @@ pub enum Fault {
 impl Fault {
     /// The status that the run answers.
     pub fn status(self) -> u8
-        ensures status { result ≡ status_of self }
-        ensures table { is_status result ≡ true }
+        ensures { result ≡ status_of self }
     {
         match self {
             Fault::Datagrams => 4,

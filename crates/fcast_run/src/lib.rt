@@ -1,13 +1,19 @@
 //! The top call: all that the program does.
 #![tactic(auto)]
 
+mod command;
+mod conclude;
 mod edge;
+mod ending;
 mod fault;
 mod manifest;
 mod replay;
+mod report;
+mod settings;
 mod shelve;
+mod take;
+mod tell;
 mod top_call;
-mod words;
 
 pub use edge::Edge;
 pub use top_call::run;

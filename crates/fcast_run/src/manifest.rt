@@ -51,7 +51,7 @@ fn push_kind(text: &mut String, kind: &Option<Label>) -> Result<(), AllocError>
 }
 
 /// Adds a line of a label and a number.
-fn push_number(
+pub fn push_number(
     alloc: Global,
     text: &mut String,
     label: &str,

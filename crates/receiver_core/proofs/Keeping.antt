@@ -1,114 +1,175 @@
--- What a receiver's fields keep, at its start, with a new packet and when it settles.
-use Rattle.std.proofs.Common.{◌≡◌, ◌≢◌, ℕ, ◌+◌, ◌≤◌, ◌^◌, Bool, true, false, cond, List, [], ◌∙◌, refl, sym, ap, subst, arith, length, Option, Some, None, eqb-true}
-use Rattle.std.specs.Prelude.{is_some, nat_le, if◌then◌else◌, ◌==◌}
-use Rattle.std.specs.Cmp.{nat_cmp_total}
-use Rattle.std.specs.FinMap.{get, get-insert}
+-- What a receiver keeps between two calls.
+use Rattle.std.proofs.Common.{◌≡◌, ◌≤◌, ℕ, true, false, cond, ◌||◌, List, [], ◌∷◌, ◌++◌, ◌∙◌, refl, sym, ap, subst, arith, map, take, drop, length, ◌<◌, suc, get_or, Option, Some, None, take_all, length-append}
+use Rattle.std.specs.Prelude.{is_some, option_map, if◌then◌else◌, ◌==◌}
+use Rattle.std.proofs.Math.Seq.{drop-cons}
 use Rattle.std.proofs.lemmas.Bool.Decides.{nat_tests}
-use Rattle.oti_blocks.specs.Partition.{size_at}
+use Rattle.std.specs.BTreeMap.{get}
+use Rattle.std.specs.FinMap as maps
+use Rattle.std.specs.Ordering.{nat_cmp}
+use Rattle.std.proofs.lemmas.List.{take-append-le, take-map}
+use Rattle.oti_blocks.specs.Partition.{ObjectInformation}
 use Rattle.alc_packet.specs.Packet.{SymbolPacket, IsPacket}
-use Rattle.alc_packet.proofs.FirstForms.{full-whole}
+use Rattle.carousel_cid.specs.Kinds.{kind_of_object}
 use Rattle.carousel_cid.specs.Instances.{Shown}
-use Rattle.receiver_core.specs.declared.held_symbol.HeldSymbol.{HeldSymbol}
-use Rattle.receiver_core.specs.declared.taken.Kept.TheVariants as kept
-use Rattle.receiver_core.specs.Held.{Held, symbols_held, joined}
-use Rattle.receiver_core.specs.Count.{New, byte_count, charge, verdict}
-use Rattle.receiver_core.specs.Whole.{is_complete, bytes_when_ready, whole}
-use Rattle.receiver_core.specs.Best.{complete, best}
-use Rattle.receiver_core.specs.Classes.{kept_of}
-use Rattle.receiver_core.specs.Receiving.{Announces}
-use Rattle.receiver_core.specs.Listed.{held_of}
-use Rattle.receiver_core.specs.Kept.{IsKept, IsStanding, Pushes, done_in, announced}
-use Rattle.receiver_core.proofs.Places.{tied_numbers}
-use Rattle.receiver_core.proofs.Counting.{joined_count}
-use Rattle.receiver_core.proofs.Completing.{Extends, complete_kept}
-use Rattle.receiver_core.proofs.Bests.{IsBest}
-use Rattle.receiver_core.proofs.Surveys.{best_of_held}
-use Rattle.receiver_core.proofs.Extending.{whole_kept}
-use Rattle.receiver_core.proofs.Admitting.{new_says, fresh_to_list, pushed_joins, nothing_counted, nothing_of_list}
+use Rattle.object_store.specs.Held.{Held}
+use Rattle.object_store.specs.HeldPair.{IsHeldPair}
+use Rattle.object_store.specs.declared.kept.Kept.{Kept}
+use Rattle.object_store.specs.Store.{Store, is_in, IsListed, ready_with}
+use Rattle.object_store.specs.Verdict.{step, completes_object}
+use Rattle.object_store.specs.Whole.{whole}
+use Rattle.object_store.proofs.Public.{whole_after}
+use Rattle.receiver_core.specs.declared.candidate.Candidate.{Candidate}
+use Rattle.receiver_core.specs.declared.standing.Standing.{Standing}
+use Rattle.receiver_core.specs.declared.standing.Standing.TheVariants.{Whole}
+use Rattle.receiver_core.specs.Best.{Objects, IsBestOf, Extends}
+use Rattle.receiver_core.specs.Receiver.{standing_of, standing_by}
+use Rattle.receiver_core.specs.Inner.Candidates.{Each, IsCandidate, AreEvery, toi_of}
+use Rattle.receiver_core.specs.Inner.Standings.{Standings, AreStandings, standing_of_bytes}
+use Rattle.receiver_core.specs.Inner.Settling.{only, IsSettling}
+use Rattle.receiver_core.proofs.Lists.{each_weaker, each_take, apart, in_parts}
+use Rattle.receiver_core.proofs.Completing.{complete_none, is_there_some}
+use Rattle.receiver_core.proofs.Candidacies.{candidate_kept}
+use Rattle.receiver_core.proofs.Settles.{only_all}
+use Rattle.receiver_core.proofs.Bests.{whole_unopened}
+use Rattle.receiver_core.proofs.Finding.{fresh_are_whole}
 
--- nothing is kept at the start
-pub kept_at_start : (symbols : List HeldSymbol) (budget : ℕ) → symbols ≡ [] → budget ≤ 2 ^ 30 → IsKept symbols budget 0 None
-kept_at_start symbols budget none small = record {
-  counted = sym (ap (λ ss. byte_count (held_of ss)) none ∙ ap byte_count nothing_of_list ∙ nothing_counted);
+-- ---- at the start
+
+pub settling_at_start : (store : Store) (known : Standings) (cs : List Candidate) → known.entries ≡ [] → cs ≡ [] → IsSettling store known cs 0 None
+settling_at_start store known cs no_entries no_candidates = record {
   within = omega arith;
-  small = small;
-  standing = tt;
+  standings = record {
+    there = λ t e. absurd (let both : false ≡ true = e in cc);
+    others = λ t e. rw no_entries refl;
+  };
+  candidates = subst (Each (IsCandidate (whole store.held))) (sym no_candidates) tt;
+  every = λ t number listed e f. absurd (let both : false ≡ true = e in cc);
+  best = λ t. complete_none (only (whole store.held) []) t refl;
 }
 
--- the installed instance stands while more becomes whole
-standing_kept : (first second : Held) (installed : Option Shown) → Extends (whole first) (whole second) → IsStanding first installed → IsStanding second installed
-standing_kept first second None more stands = tt
-standing_kept first second (Some i) more stands = complete_kept (whole first) (whole second) more i.descriptor_toi i stands
+-- ---- with a packet
 
--- a new packet's symbol at the end
-pub joins : (budget : ℕ) (old new : List HeldSymbol) (p : SymbolPacket) → Pushes old new p → length p.symbol ≡ p.oti.symbol → verdict budget (held_of old) p ≡ New
-    → held_of new ≡ joined (held_of old) p
-joins budget old new p pushes whole_symbol is_new = pushed_joins budget old new p pushes (full-whole p whole_symbol) (new_says budget (held_of old) p is_new)
+-- the first objects that were ready are the first of those that are now
+same_front : (n : ℕ) (ready : List ℕ) (p : SymbolPacket) (kept : Kept) → n ≤ length ready → take n (ready_with ready p kept) ≡ take n ready
+same_front n ready p kept within = elim (completes_object kept) as (λ b. take n (if b then ready ++ p.toi ∷ [] else ready) ≡ take n ready) [
+  | true ↦ rw take-append-le refl
+  | false ↦ refl
+]
 
--- the fields keep what they keep when a new packet joins
-pub kept_with : (old new : List HeldSymbol) (budget count more : ℕ) (installed : Option Shown) (p : SymbolPacket) → IsKept old budget count installed → Pushes old new p
-    → length p.symbol ≡ p.oti.symbol → IsPacket p → verdict budget (held_of old) p ≡ New → more ≡ charge (held_of old) p → IsKept new budget (count + more) installed
-kept_with old new budget count more installed p kept pushes whole_symbol packet is_new charged =
-    let held = held_of old in
-    let says = new_says budget held p is_new in
-    let fresh = fresh_to_list budget old p packet says in
-    let same = joins budget old new p pushes whole_symbol is_new in
-    let bytes = ap byte_count same ∙ joined_count held p fresh in
+no_fewer : (ready : List ℕ) (p : SymbolPacket) (kept : Kept) → length ready ≤ length (ready_with ready p kept)
+no_fewer ready p kept = elim (completes_object kept) as (λ b. length ready ≤ length (if b then ready ++ p.toi ∷ [] else ready)) [
+  | true ↦ omega (arith, length-append ready (p.toi ∷ []))
+  | false ↦ omega arith
+]
+
+-- an object that was settled is whole as before
+same_settled : (first second : Objects) (ready : List ℕ) (n t : ℕ) → Extends first second → ((u : ℕ) → is_some (first u) ≡ is_in u ready) → is_in t (take n ready) ≡ true → second t ≡ first t
+same_settled first second ready n t more listed among =
+    let bytes = is_there_some (first t) (listed t ∙ in_parts n ready t ∙ ap (λ b. b || is_in t (drop n ready)) among) in
+    more.keeps t bytes.0 bytes.1 ∙ sym bytes.1
+
+only_same : (first second : Objects) (ts : List ℕ) → ((t : ℕ) → is_in t ts ≡ true → second t ≡ first t) → only second ts ≡ only first ts
+only_same first second ts same = λ i t. at t i where
+  at : (t : ℕ) → (if is_in t ts then second t else None) ≡ (if is_in t ts then first t else None)
+  at t = elim (is_in t ts) as (λ b. is_in t ts ≡ b → (if b then second t else None) ≡ (if b then first t else None)) [
+    | true ↦ λ e. same t e
+    | false ↦ λ e. refl
+  ] refl
+
+-- with more objects, of which those that were settled are as before
+grown : (s r : Store) (known : Standings) (cs : List Candidate) (n : ℕ) (installed : Option Shown) → IsListed s.held s.ready → Extends (whole s.held) (whole r.held)
+    → take n r.ready ≡ take n s.ready → length s.ready ≤ length r.ready → IsSettling s known cs n installed → IsSettling r known cs n installed
+grown s r known cs n installed listed more front longer settling =
+    let same = same_settled (whole s.held) (whole r.held) s.ready n in
+    let again : (t : ℕ) → is_in t (take n s.ready) ≡ true → whole r.held t ≡ whole s.held t = λ t e. same t more listed.listed e in
     record {
-      counted = ap (λ n. n + more) kept.counted ∙ ap (λ n. byte_count held + n) charged ∙ sym bytes;
-      within = omega (arith, kept.counted, charged, says.room);
-      small = kept.small;
-      standing = subst (λ h. IsStanding h installed) (sym same) (standing_kept held (joined held p) installed (whole_kept held p fresh says.wanting) kept.standing);
+      within = omega (arith, settling.within, longer);
+      standings = subst (λ ts. AreStandings (whole r.held) ts known) (sym front) (record {
+        there = λ t e. settling.standings.there t e ∙ ap (option_map standing_of_bytes) (sym (again t e));
+        others = settling.standings.others;
+      });
+      candidates = each_weaker (IsCandidate (whole s.held)) (IsCandidate (whole r.held)) (candidate_kept (whole s.held) (whole r.held) more) cs settling.candidates;
+      every = subst (λ ts. AreEvery (whole r.held) ts cs) (sym front) (λ t number ts e f. settling.every t number ts e (ap (option_map kind_of_object) (sym (again t e)) ∙ f));
+      best = subst (λ ts. IsBestOf (only (whole r.held) ts) installed) (sym front) (subst (λ objects. IsBestOf objects installed) (sym (only_same (whole s.held) (whole r.held) (take n s.ready) again)) settling.best);
     }
 
--- a number passes the test against itself
-itself : (x : ℕ) → (x == x) ≡ true
-itself x = grind (arith, nat_tests)
+pub settling_kept : (s r : Store) (p : SymbolPacket) (kept : Kept) (known : Standings) (cs : List Candidate) (n : ℕ) (installed : Option Shown)
+    → IsListed s.held s.ready → IsHeldPair s.held → IsPacket p → r.held ≡ step s.budget s.held p → r.ready ≡ ready_with s.ready p kept
+    → IsSettling s known cs n installed → IsSettling r known cs n installed
+settling_kept s r p kept known cs n installed listed pair packet held ready settling =
+    let more : Extends (whole s.held) (whole r.held) = record { keeps = λ t bytes e. ap (λ h. whole h t) held ∙ whole_after s.budget s.held p pair packet t bytes e } in
+    grown s r known cs n installed listed more (ap (take n) ready ∙ same_front n s.ready p kept settling.within)
+    (let longer = no_fewer s.ready p kept in let same = ap (length {A = ℕ}) ready in omega arith) settling
 
--- the packet's object is open once it has joined
-open_joined : (held : Held) (p : SymbolPacket) → get (joined held p).objects p.toi ≡ Some p.oti
-open_joined held p =
-    get-insert nat_cmp_total held.objects p.toi p.oti p.toi
-    ∙ ap (λ b. cond b (Some p.oti) (get held.objects p.toi)) (tied_numbers p.toi p.toi ∙ itself p.toi)
+-- ---- after a settling
 
--- there is an answer where its test holds
-some_if : {A : Type 0} (b : Bool) (x : A) → is_some (if b then Some x else None) ≡ b
-some_if true x = refl
-some_if false x = refl
+pub settled_now : (s : Store) (known : Standings) (cs : List Candidate) (installed : Option Shown) → IsListed s.held s.ready → AreStandings (whole s.held) s.ready known
+    → Each (IsCandidate (whole s.held)) cs → AreEvery (whole s.held) s.ready cs → IsBestOf (whole s.held) installed → IsSettling s known cs (length s.ready) installed
+settled_now s known cs installed listed standings candidates every best =
+    let all : take (length s.ready) s.ready ≡ s.ready = take_all (length s.ready) s.ready (omega arith) in
+    record {
+      within = omega arith;
+      standings = subst (λ ts. AreStandings (whole s.held) ts known) (sym all) standings;
+      candidates = candidates;
+      every = subst (λ ts. AreEvery (whole s.held) ts cs) (sym all) every;
+      best = subst (λ ts. IsBestOf (only (whole s.held) ts) installed) (sym all) (subst (λ objects. IsBestOf objects installed) (sym (only_all (whole s.held) s.ready listed.listed)) best);
+    }
 
--- the packet's object is complete where it is whole
-ready_is_whole : (held : Held) (p : SymbolPacket) → is_complete (joined held p) p.toi p.oti ≡ is_some (whole (joined held p) p.toi)
-unfolding whole
-ready_is_whole held p = sym (ap (λ o. is_some (bytes_when_ready (joined held p) p.toi o)) (open_joined held p) ∙ some_if (is_complete (joined held p) p.toi p.oti) _)
+-- where all were settled before, what is installed is the best
+pub settled_best : (s : Store) (known : Standings) (cs : List Candidate) (n : ℕ) (installed : Option Shown) → IsListed s.held s.ready → IsSettling s known cs n installed → n ≡ length s.ready
+    → IsBestOf (whole s.held) installed
+settled_best s known cs n installed listed settling all =
+    subst (λ objects. IsBestOf objects installed) (ap (only (whole s.held)) (take_all n s.ready (omega (arith, all))) ∙ only_all (whole s.held) s.ready listed.listed) settling.best
 
--- what a new packet completes
-pub done_is : (held after : Held) (p : SymbolPacket) → after ≡ joined held p → done_in after p ≡ kept_of held p New
-done_is held after p same = ap (λ h. done_in h p) same ∙ ap (λ b. kept.New (nat_le (size_at p.oti p.sbn) (symbols_held (joined held p) p.toi p.oti p.sbn)) b) (ready_is_whole held p)
+-- where a ready object wasn't settled, not all that is whole was
+pub not_all_settled : (s : Store) (n : ℕ) → IsListed s.held s.ready → n < length s.ready → ((t : ℕ) → is_some (whole s.held t) ≡ true → is_in t (take n s.ready) ≡ true) → ⊥
+not_all_settled s n listed less all =
+    let t = get_or s.ready n 0 in
+    let behind : is_in t (drop n s.ready) ≡ true = ap (is_in t) (drop-cons s.ready n 0 less) ∙ ap (λ b. b || is_in t (drop (suc n) s.ready)) (itself t) in
+    let front = all t (fresh_are_whole s n t listed behind) in
+    let both : true ≡ false = sym behind ∙ apart n s.ready t listed.different front in cc
+  where
+    itself : (x : ℕ) → (x == x) ≡ true
+    itself x = grind (arith, nat_tests)
 
--- the best instance stands
-best_stands : (held : Held) (b : Option Shown) → IsBest (whole held) b → IsStanding held b
-best_stands held None is = tt
-best_stands held (Some i) is = is.announced
-
--- the best instance is installed
-pub kept_settled : (symbols : List HeldSymbol) (budget count : ℕ) (installed found : Option Shown) → IsKept symbols budget count installed → found ≡ best (held_of symbols) → IsKept symbols budget count found
-kept_settled symbols budget count installed found kept is = record {
-  counted = kept.counted;
-  within = kept.within;
-  small = kept.small;
-  standing = subst (IsStanding (held_of symbols)) (sym is) (best_stands (held_of symbols) (best (held_of symbols)) (best_of_held (held_of symbols)));
+-- where there was no memory, all is as before once the fresh standings are forgotten and the new candidates left out
+pub forgotten : (s : Store) (old found known : Standings) (cs more : List Candidate) (n : ℕ) (installed : Option Shown) → IsListed s.held s.ready → IsSettling s old cs n installed
+    → ((t : ℕ) → is_in t (drop n s.ready) ≡ false → get nat_cmp found t ≡ get nat_cmp old t)
+    → ((t : ℕ) → get nat_cmp known t ≡ cond (is_in t (drop n s.ready)) None (get nat_cmp found t))
+    → Each (IsCandidate (whole s.held)) more → take (length cs) (map toi_of more) ≡ map toi_of cs → IsSettling s known (take (length cs) more) n installed
+forgotten s old found known cs more n installed listed settling others gone candidates front = record {
+  within = settling.within;
+  standings = record {
+    there = λ t e. let stale = apart n s.ready t listed.different e in
+        gone t ∙ ap (λ b. cond b None (get nat_cmp found t)) stale ∙ others t stale ∙ settling.standings.there t e;
+    others = λ t e. gone t ∙ elim (is_in t (drop n s.ready)) as (λ b. is_in t (drop n s.ready) ≡ b → cond b None (get nat_cmp found t) ≡ None) [
+      | true ↦ λ fresh. refl
+      | false ↦ λ stale. others t stale ∙ settling.standings.others t e
+    ] refl;
+  };
+  candidates = each_take (IsCandidate (whole s.held)) (length cs) more candidates;
+  every = λ t number ts e f. ap (is_in t) (sym (take-map toi_of (length cs) more) ∙ front) ∙ settling.every t number ts e f;
+  best = settling.best;
 }
 
--- numbers that don't pass the test for equal ones differ
-differ : (x y : ℕ) → (x == y) ≡ false → x ≢ y
-differ x y h = λ e. grind (arith, nat_tests)
+-- ---- standings
 
--- the number is told where the instance is another one
-pub announces_best : (held : Held) (old new : Option Shown) → IsStanding held old → IsBest (whole held) new → Announces (announced old new) old new
-announces_best held None None stands is = refl
-announces_best held (Some o) None stands is = absurd (let both : None ≡ Some o = sym (is.top o.descriptor_toi) ∙ stands in cc)
-announces_best held None (Some n) stands is = (λ e. cc, refl)
-announces_best held (Some o) (Some n) stands is = elim (o.descriptor_toi == n.descriptor_toi) as (λ b. (o.descriptor_toi == n.descriptor_toi) ≡ b → Announces (if b then None else Some n.number) (Some o) (Some n)) [
-  | true ↦ λ same. sym is.announced ∙ ap (complete (whole held)) (sym (eqb-true o.descriptor_toi n.descriptor_toi same)) ∙ stands
-  | false ↦ λ apart. (λ e. differ o.descriptor_toi n.descriptor_toi apart (ap (λ i. i.descriptor_toi) (let one : o ≡ n = cc in one)), refl)
-] refl
+pub known_standing : (held : Held) (settled : List ℕ) (known : Standings) (t : ℕ) (s : Standing) → AreStandings (whole held) settled known → get nat_cmp known t ≡ Some s → s ≡ standing_of held settled t
+known_standing held settled known t s are e = elim (is_in t settled) as (λ b. is_in t settled ≡ b → s ≡ standing_by b (maps.get held.objects t) (whole held t)) [
+  | false ↦ λ h. absurd (let both : None ≡ Some s = sym (are.others t h) ∙ e in cc)
+  | true ↦ λ h. by_bytes (whole held t) (maps.get held.objects t) (sym e ∙ are.there t h) (λ closed. whole_unopened held t closed)
+] refl where
+  by_bytes : (bytes : Option (List ℕ)) (o : Option ObjectInformation) → Some s ≡ option_map standing_of_bytes bytes → (o ≡ None → bytes ≡ None) → s ≡ standing_by true o bytes
+  by_bytes None o f closed = absurd (let both : Some s ≡ None = f in cc)
+  by_bytes (Some bytes) None f closed = absurd (let both : Some bytes ≡ None = closed refl in cc)
+  by_bytes (Some bytes) (Some o) f closed = cc
+
+pub whole_standing : (held : Held) (settled : List ℕ) (known : Standings) (t : ℕ) → AreStandings (whole held) settled known → get nat_cmp known t ≡ None → is_some (whole held t) ≡ true → Whole ≡ standing_of held settled t
+whole_standing held settled known t are none ready = elim (is_in t settled) as (λ b. is_in t settled ≡ b → Whole ≡ standing_by b (maps.get held.objects t) (whole held t)) [
+  | true ↦ λ h. absurd (let bytes = is_there_some (whole held t) ready in let both : None ≡ Some (standing_of_bytes bytes.0) = sym none ∙ are.there t h ∙ ap (option_map standing_of_bytes) bytes.1 in cc)
+  | false ↦ λ h. fresh (whole held t) (maps.get held.objects t) ready (λ closed. whole_unopened held t closed)
+] refl where
+  fresh : (bytes : Option (List ℕ)) (o : Option ObjectInformation) → is_some bytes ≡ true → (o ≡ None → bytes ≡ None) → Whole ≡ standing_by false o bytes
+  fresh None o f closed = absurd (let both : false ≡ true = f in cc)
+  fresh (Some bytes) None f closed = absurd (let both : Some bytes ≡ None = closed refl in cc)
+  fresh (Some bytes) (Some o) f closed = refl

@@ -1,15 +1,17 @@
 -- The best instance of the objects that are whole (RFC 6968, sections 3.2 and 4).
-use Rattle.std.specs.Prelude.{ℕ, ◌&&◌, ◌||◌, ◌==◌, Bool, nat_lt, if◌then◌else◌, List, [], ◌∷◌, Option, Some, None, option_map}
+use Rattle.std.specs.Prelude.{ℕ, ◌≡◌, ◌≤◌, ◌&&◌, ◌||◌, ◌==◌, Bool, false, nat_lt, if◌then◌else◌, List, [], ◌∷◌, Option, Some, None, option_map}
 use Rattle.std.specs.Option.{option_and_then}
 use Rattle.std.specs.List.{filter_map}
 use Rattle.std.specs.FinMap.{keys}
 use Rattle.carousel_cid.specs.Instances.{Shown}
-use Rattle.carousel_cid.specs.EmptyDescriptor.{kind_of_empty as kind_of_object}
+use Rattle.carousel_cid.specs.Kinds.{kind_of_object}
 use Rattle.carousel_cid.specs.declared.file_of.FileOf.{FileOf}
-use Rattle.carousel_cid.specs.declared.empty.EmptyKind.{EmptyKind as Kind}
-use Rattle.carousel_cid.specs.declared.empty.EmptyKind.TheVariants.{File, Descriptor, Unusable}
-use Rattle.receiver_core.specs.Held.{Held}
-use Rattle.receiver_core.specs.Whole.{whole}
+use Rattle.carousel_cid.specs.declared.kind.Kind.{Kind}
+use Rattle.carousel_cid.specs.declared.kind.Kind.TheVariants.{File, Descriptor, Unusable}
+use Rattle.alc_packet.specs.Packet.{SymbolPacket}
+use Rattle.object_store.specs.Held.{Held}
+use Rattle.object_store.specs.Whole.{whole}
+use Rattle.object_store.specs.Verdict.{held_after}
 
 -- the whole objects, by their identifiers
 abbrev pub Objects : Type 0
@@ -44,6 +46,28 @@ complete objects t = option_and_then (λ bytes. instance_of_kind objects t (kind
 abbrev pub is_better : Shown → Shown → Bool
 is_better i j = nat_lt j.number i.number || ((i.number == j.number) && nat_lt i.descriptor_toi j.descriptor_toi)
 
+-- the instance is announced, and no other that is announced is better
+pub record IsGreatest (objects : Objects) (i : Shown) : Type 0 where
+  pub announced : complete objects i.descriptor_toi ≡ Some i
+  pub greatest : (t : ℕ) (j : Shown) → complete objects t ≡ Some j → is_better j i ≡ false
+
+-- the best instance of these objects: the greatest one, and none where none is announced
+abbrev pub IsBestOf : Objects → Option Shown → Type 0
+IsBestOf objects None = (t : ℕ) → complete objects t ≡ None
+IsBestOf objects (Some i) = IsGreatest objects i
+
+-- the second has all that the first has
+pub record Extends (first second : Objects) : Type 0 where
+  pub keeps : (t : ℕ) (bytes : List ℕ) → first t ≡ Some bytes → second t ≡ Some bytes
+
+-- the number isn't lower, and at the same number the identifier isn't greater
+abbrev pub NotOlder : Option Shown → Option Shown → Type 0
+NotOlder None new = Unit {0}
+NotOlder (Some i) None = ⊥
+NotOlder (Some i) (Some j) = (i.number ≤ j.number) × (i.number ≡ j.number → j.descriptor_toi ≤ i.descriptor_toi)
+
+-- ---- the same by computing
+
 abbrev pub better_of : Shown → Option Shown → Shown
 better_of i None = i
 better_of i (Some j) = if is_better j i then j else i
@@ -56,3 +80,7 @@ best_of (i ∷ is) = Some (better_of i (best_of is))
 -- the best instance of the descriptors that are complete among what is held
 unfoldable pub best : Held → Option Shown
 best held = best_of (filter_map (complete (whole held)) (keys held.objects))
+
+-- what a receiver with this budget has installed after a list of packets of its session
+abbrev pub installed_after : ℕ → List SymbolPacket → Option Shown
+installed_after budget ps = best (held_after budget ps)

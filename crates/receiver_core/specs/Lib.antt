@@ -1,12 +1,4 @@
-pub mod Below
-pub mod Held
-pub mod Count
-pub mod Whole
 pub mod Best
 pub mod Classes
-pub mod Receiving
-pub mod Listed
-pub mod Admissions
-pub mod Candidates
-pub mod Kept
-pub mod Codes
+pub mod Receiver
+pub mod Inner

@@ -1,18 +1,21 @@
-//! A receiver of one session: it holds symbols, and installs the best instance of what is whole.
-//!
-//! This receiver is the plain one: it keeps a list of the held symbols, and computes the best
-//! instance from the whole list each time.
+//! A receiver of one session: it keeps packets, and installs the best instance of what is whole.
 #![tactic(auto)]
 
-mod admission;
-mod held_symbol;
-mod object;
+mod announcing;
+mod candidate;
+mod choosing;
+mod classifying;
+pub mod laws;
+mod reaching;
 mod receiver;
-mod survey;
-mod symbols;
+mod settling;
+mod standing;
 mod taken;
+
+pub use object_store::Kept;
+pub use receiver::Receiver;
+pub use standing::Standing;
+pub use taken::Taken;
+
 #[cfg(test)]
 mod tests;
-
-pub use receiver::Receiver;
-pub use taken::{Kept, Taken};

@@ -1,151 +1,187 @@
-ghost use Rattle.std.specs.Prelude.{◌≡◌, ◌<◌, ◌≤◌, ◌^◌, false, Some, None, length, IfOk, OnOk, OnErr, IsOk, option_map};
-ghost use Rattle.receiver_core.specs.Held.{nothing_held, joined};
-ghost use Rattle.receiver_core.specs.Count.{New, verdict, step};
-ghost use Rattle.receiver_core.specs.Classes.{taken_of, taken_packet, held_with, held_with_reading, kept_of, is_new, is_new_kept};
-ghost use Rattle.receiver_core.specs.Receiving.{Receiving, Announces, has_unbuilt};
+//! The receiver.
+ghost use Rattle.std.specs.Prelude.{◌≡◌, ◌<◌, ◌≤◌, ◌+◌, ◌-◌, ◌^◌, ℕ, [], true, false, Some, None, min, IfOk, OnOk, OnErr, IsOk, option_map, is_some};
+ghost use Rattle.alc_packet.specs.Packet.{IsPacket};
+ghost use Rattle.object_store.specs.Held.{nothing_held};
+ghost use Rattle.object_store.specs.Whole.{whole};
+ghost use Rattle.object_store.specs.Store.{is_in};
 ghost use Rattle.receiver_core.specs.Best.{best};
-ghost use Rattle.receiver_core.specs.Kept.{Pushes, done_in, announced};
-ghost use Rattle.receiver_core.specs.Listed.{held_of};
+ghost use Rattle.receiver_core.specs.Classes.{taken_of, taken_control, held_with, steps_with, takes_memory, drops_with};
+ghost use Rattle.receiver_core.specs.Inner.Drops.{drops_after};
+ghost use Rattle.object_store.specs.Verdict.{verdict, step, is_new, row_steps};
+ghost use Rattle.receiver_core.specs.Receiver.{Receiver, Announces, standing_of};
 
-use crate::admission::{Admission, charge, judge};
-use crate::held_symbol::HeldSymbol;
-use crate::object::is_ready;
-use crate::survey::survey;
-use crate::symbols::held_in_block;
-use crate::{Kept, Taken};
+use crate::candidate::Candidate;
+use crate::classifying::forget;
+use crate::settling::{find, fresh_of, install};
+use crate::{Kept, Standing, Taken};
 use alc_packet::{Datagram, Packet};
 use carousel_cid::Instance;
+use object_store::Store;
+use rs_solve::Steps;
 use std::alloc::{AllocError, Global};
+use std::collections::BTreeMap;
 use std::marker::Model;
 
-/// A receiver of one session: it holds symbols, and the instance that is installed.
+/// A receiver of one session: it keeps packets, and installs the best instance of what is whole.
 #[derive(Drop)]
 pub struct Receiver {
     tsi: u64,
-    budget: u64,
-    /// The byte count of what is held.
-    count: u64,
-    /// What is held, in order of arrival.
-    symbols: Vec<HeldSymbol>,
+    store: Store,
+    /// The standing of each object that was settled.
+    standings: BTreeMap<u128, Standing>,
+    /// The descriptors among them.
+    candidates: Vec<Candidate>,
+    /// So many of the store's ready objects, from the first on, were settled.
+    settled: usize,
+    /// The best instance of those.
     installed: Option<Instance>,
-    unbuilt: bool,
+    drops: u64,
 }
 
 impl Model for Receiver {
-    ghost use Rattle.receiver_core.specs.Receiving.{Receiving};
-    ghost use Rattle.receiver_core.specs.Listed.{held_of};
-    ghost use Rattle.receiver_core.specs.Kept.{IsKept};
+    ghost use Rattle.receiver_core.specs.Receiver.{Receiver};
+    ghost use Rattle.receiver_core.specs.Inner.Settling.{IsSettling};
+    ghost use Rattle.std.specs.Prelude.{take};
     ghost use Rattle.std.specs.Coded.{codes};
-    ghost use Rattle.receiver_core.specs.Codes.{objects_code, rows_code};
+    ghost use Rattle.object_store.specs.Inner.Codes.{held_code};
 
-    ghost Value = { Receiving };
+    ghost Value = { Receiver };
 
-    ghost coded = { Prim.hlevel (codes, objects_code, rows_code) };
+    ghost coded = { Prim.hlevel (codes, held_code) };
 
-    ghost view = { λ a. record { tsi = a.tsi; budget = a.budget; held = held_of a.symbols.items; installed = a.installed; unbuilt = a.unbuilt } };
+    ghost view = { λ a. record { tsi = a.tsi; budget = a.store.budget; held = a.store.held; installed = a.installed; settled = take a.settled a.store.ready; drops = a.drops } };
 
-    ghost invariant = { λ a. IsKept a.symbols.items a.budget a.count a.installed };
+    ghost invariant = { λ a. IsSettling a.store a.standings a.candidates.items a.settled a.installed };
 }
 
 impl Receiver {
-    /// A receiver of the session with this TSI, which holds nothing. `budget` bounds the byte count
-    /// of what it will hold: 256 for an object, 64 for a source block, and the length of each symbol.
+    /// A receiver of the session with this TSI, which holds nothing. `budget` bounds the byte count of what it will
+    /// hold: 256 for an object, 64 for a source block with a symbol, and the symbol length for each symbol.
     pub fn start(alloc: Global, tsi: u64, budget: u64) -> Result<Receiver, AllocError>
         requires tsi { tsi < 2 ^ 48 }
         requires least { 4096 ≤ budget }
         requires most { budget ≤ 2 ^ 30 }
-        ensures { IfOk result (λ r. r ≡ record { tsi = tsi; budget = budget; held = nothing_held; installed = None; unbuilt = false }) }
+        ensures { IfOk result (λ r. r ≡ record { tsi = tsi; budget = budget; held = nothing_held; installed = None; settled = []; drops = 0 }) }
     {
         Ok(Receiver {
             tsi,
-            budget,
-            count: 0,
-            symbols: Vec::new(alloc),
+            store: Store::start(alloc, budget)?,
+            standings: BTreeMap::new(alloc),
+            candidates: Vec::new(alloc),
+            settled: 0,
             installed: None,
-            unbuilt: false,
+            drops: 0,
         })
     }
 
-    /// Takes a datagram, and says what became of it. Only a new symbol takes memory; an error says
-    /// that there was none, and then nothing has changed.
-    pub fn take(&mut self, datagram: &[u8]) -> Result<Taken, AllocError>
+    /// Takes a datagram, and says what became of it. Only a new symbol takes memory; an error says that there was
+    /// none, and then nothing has changed. Row steps are added where a source block is solved.
+    pub fn take<L>(&mut self, datagram: &[u8], steps: &mut Steps<L>) -> Result<Taken, AllocError>
         ensures answer { IfOk result (λ t. t ≡ taken_of self.old.tsi self.old.budget self.old.held datagram.now) }
-        ensures ok { OnOk result (self.new ≡ record self.old { held = held_with self.old.tsi self.old.budget self.old.held datagram.now }) }
+        ensures held { OnOk result (self.new.held ≡ held_with self.old.tsi self.old.budget self.old.held datagram.now) }
+        ensures drops { IfOk result (λ t. self.new.drops ≡ drops_with self.old.drops t) }
+        ensures tsi { self.new.tsi ≡ self.old.tsi }
+        ensures budget { self.new.budget ≡ self.old.budget }
+        ensures installed { self.new.installed ≡ self.old.installed }
+        ensures settled { self.new.settled ≡ self.old.settled }
+        ensures count { OnOk result (steps.new.count ≡ min (steps.old.count + steps_with self.old.tsi self.old.budget self.old.held datagram.now) (2 ^ 64 - 1)) }
+        ensures ledger { steps.new.ledger ≡ steps.old.ledger }
         ensures err { OnErr result (self.new ≡ self.old) }
-        ensures no_memory { is_new (taken_of self.old.tsi self.old.budget self.old.held datagram.now) ≡ false → IsOk result }
+        ensures uncounted { OnErr result (steps.new.count ≡ steps.old.count) }
+        ensures no_memory { takes_memory (taken_of self.old.tsi self.old.budget self.old.held datagram.now) ≡ false → IsOk result }
     {
-        match alc_packet::read_first_form(datagram) {
-            Err(refusal) => Ok(Taken::Refused(refusal)),
-            Ok(Datagram::Control { close, .. }) => Ok(Taken::Control { close }),
-            Ok(Datagram::Symbol(packet)) => self.take_packet(&packet),
-        }
-    }
-
-    /// Takes a packet whose symbol is whole.
-    fn take_packet(&mut self, packet: &Packet<'_>) -> Result<Taken, AllocError>
-        requires { length packet.now.symbol ≡ packet.now.oti.symbol }
-        ensures answer { IfOk result (λ t. t ≡ taken_packet self.old.tsi self.old.budget self.old.held packet.now) }
-        ensures ok { OnOk result (self.new ≡ record self.old { held = held_with_reading self.old.tsi self.old.budget self.old.held (Some packet.now) }) }
-        ensures err { OnErr result (self.new ≡ self.old) }
-        ensures no_memory { is_new (taken_packet self.old.tsi self.old.budget self.old.held packet.now) ≡ false → IsOk result }
-    {
+        // Read, so that its range is known where no step is added.
+        let _count = steps.count();
+        let packet = match alc_packet::read(datagram) {
+            Err(refusal) => return Ok(Taken::Refused(refusal)),
+            Ok(Datagram::Control { tsi, close }) => return Ok(self.taken_control(tsi, close)),
+            Ok(Datagram::Symbol(packet)) => packet,
+        };
         if packet.tsi != self.tsi {
             return Ok(Taken::Elsewhere { tsi: packet.tsi });
         }
-        match self.keep(packet) {
-            Ok(kept) => Ok(Taken::Packet {
-                toi: packet.toi,
-                sbn: packet.sbn,
-                esi: packet.esi,
-                kept,
-            }),
-            Err(error) => Err(error),
+        let kept = self.keep(&packet, steps)?;
+        Ok(Taken::Packet {
+            toi: packet.toi,
+            sbn: packet.sbn,
+            esi: packet.esi,
+            kept,
+        })
+    }
+
+    /// What a control of this session is.
+    fn taken_control(&self, tsi: u64, close: bool) -> Taken
+        ensures { result ≡ taken_control self.now.tsi tsi close }
+    {
+        if tsi == self.tsi {
+            Taken::Control { close }
+        } else {
+            Taken::Elsewhere { tsi }
         }
     }
 
-    /// Keeps a packet of the session whose symbol is whole, where its verdict is New.
-    fn keep(&mut self, packet: &Packet<'_>) -> Result<Kept, AllocError>
-        requires { length packet.now.symbol ≡ packet.now.oti.symbol }
-        ensures answer { IfOk result (λ k. k ≡ kept_of self.old.held packet.now (verdict self.old.budget self.old.held packet.now)) }
-        ensures ok { OnOk result (self.new ≡ record self.old { held = step self.old.budget self.old.held packet.now }) }
+    /// Keeps a packet of the session, and counts it where it is over the budget.
+    fn keep<L>(&mut self, packet: &Packet<'_>, steps: &mut Steps<L>) -> Result<Kept, AllocError>
+        requires { IsPacket packet.now }
+        ensures answer { IfOk result (λ k. k ≡ verdict self.old.budget self.old.held packet.now) }
+        ensures held { OnOk result (self.new.held ≡ step self.old.budget self.old.held packet.now) }
+        ensures drops { IfOk result (λ k. self.new.drops ≡ drops_after self.old.drops k) }
+        ensures tsi { self.new.tsi ≡ self.old.tsi }
+        ensures budget { self.new.budget ≡ self.old.budget }
+        ensures installed { self.new.installed ≡ self.old.installed }
+        ensures settled { self.new.settled ≡ self.old.settled }
+        ensures count { OnOk result (steps.new.count ≡ min (steps.old.count + row_steps self.old.budget self.old.held packet.now) (2 ^ 64 - 1)) }
+        ensures ledger { steps.new.ledger ≡ steps.old.ledger }
         ensures err { OnErr result (self.new ≡ self.old) }
-        ensures no_memory { is_new_kept (kept_of self.old.held packet.now (verdict self.old.budget self.old.held packet.now)) ≡ false → IsOk result }
+        ensures uncounted { OnErr result (steps.new.count ≡ steps.old.count) }
+        ensures no_memory { is_new (verdict self.old.budget self.old.held packet.now) ≡ false → IsOk result }
     {
-        match judge(self.symbols.as_slice(), self.budget, self.count, packet) {
-            Admission::New => self.join(packet),
-            Admission::Repeat => Ok(Kept::Repeat),
-            Admission::NotYet => Ok(Kept::NotYet),
-        }
+        // Its contract says what holds of the store.
+        let _listed = self.store.ready();
+        let kept = self.store.keep(packet, steps)?;
+        self.drops = drops_after(self.drops, &kept);
+        Ok(kept)
     }
 
-    /// Joins a packet whose verdict is New.
-    fn join(&mut self, packet: &Packet<'_>) -> Result<Kept, AllocError>
-        requires whole { length packet.now.symbol ≡ packet.now.oti.symbol }
-        requires new { verdict self.old.budget self.old.held packet.now ≡ New }
-        ensures answer { IfOk result (λ k. k ≡ kept_of self.old.held packet.now New) }
-        ensures ok { OnOk result (self.new ≡ record self.old { held = joined self.old.held packet.now }) }
-        ensures err { OnErr result (self.new ≡ self.old) }
-    {
-        let charge = charge(self.symbols.as_slice(), packet);
-        push_symbol(&mut self.symbols, packet)?;
-        self.count += charge;
-        Ok(done_by(self.symbols.as_slice(), packet))
-    }
-
-    /// Makes the best instance of what is held the installed one. The answer is its number where it
-    /// isn't the one that was installed, and none where it is. An error says that there was no
-    /// memory, and then nothing has changed.
+    /// Makes the best instance of what is whole the installed one. The answer is its number where it isn't the one
+    /// that was installed, and none where it is. An error says that there was no memory, and then nothing has changed.
+    ///
+    /// It takes memory only where an object has become ready since it answered last, and else it does nothing.
     pub fn settle(&mut self) -> Result<Option<u32>, AllocError>
-        ensures ok { OnOk result (self.new ≡ record self.old { installed = best self.old.held; unbuilt = has_unbuilt self.old.held }) }
+        ensures best { OnOk result (self.new.installed ≡ best self.old.held) }
         ensures answer { IfOk result (λ n. Announces n self.old.installed (best self.old.held)) }
+        ensures settled { OnOk result ((t : ℕ) → is_in t self.new.settled ≡ is_some (whole self.old.held t)) }
+        ensures tsi { self.new.tsi ≡ self.old.tsi }
+        ensures budget { self.new.budget ≡ self.old.budget }
+        ensures held { self.new.held ≡ self.old.held }
+        ensures drops { self.new.drops ≡ self.old.drops }
         ensures err { OnErr result (self.new ≡ self.old) }
+        ensures no_memory { ((t : ℕ) → is_some (whole self.old.held t) ≡ true → is_in t self.old.settled ≡ true) → IsOk result }
     {
-        let alloc = *self.symbols.allocator();
-        let findings = survey(alloc, self.symbols.as_slice())?;
-        let number = announcement(&self.installed, &findings.best);
-        self.installed = findings.best;
-        self.unbuilt = findings.unbuilt;
-        Ok(number)
+        let alloc = *self.candidates.allocator();
+        let before = self.candidates.as_slice().len();
+        let count = self.store.ready().len();
+        if self.settled == count {
+            return Ok(None);
+        }
+        match find(
+            alloc,
+            &self.store,
+            self.settled,
+            &self.installed,
+            &mut self.standings,
+            &mut self.candidates,
+        ) {
+            Ok(found) => {
+                self.settled = count;
+                Ok(install(&mut self.installed, found))
+            }
+            Err(error) => {
+                forget(&mut self.standings, fresh_of(&self.store, self.settled));
+                self.candidates.truncate(before);
+                Err(error)
+            }
+        }
     }
 
     /// The installed instance, where there is one.
@@ -155,51 +191,44 @@ impl Receiver {
         self.installed.as_ref()
     }
 
-    /// Whether an object is ready that isn't read yet, as of the last `settle` that was done.
-    pub fn not_yet(&self) -> bool
-        ensures { result ≡ self.now.unbuilt }
+    /// How far the receiver is with an object.
+    pub fn standing(&self, toi: u128) -> Standing
+        ensures { result ≡ standing_of self.now.held self.now.settled toi }
     {
-        self.unbuilt
+        if let Some(standing) = self.standings.get(&toi) {
+            return *standing;
+        }
+        if self.store.whole(toi).is_some() {
+            return Standing::Whole;
+        }
+        match self.store.oti(toi) {
+            Some(_) => Standing::Partial,
+            None => Standing::Unknown,
+        }
+    }
+
+    /// What is held.
+    pub fn store(&self) -> &Store
+        ensures held { result.now.held ≡ self.now.held }
+        ensures budget { result.now.budget ≡ self.now.budget }
+    {
+        &self.store
+    }
+
+    /// How many packets were over the budget; the count stands still at the end of its type.
+    pub fn drops(&self) -> u64
+        ensures { result ≡ self.now.drops }
+    {
+        self.drops
     }
 }
 
-/// Adds the packet's symbol at the end.
-fn push_symbol(symbols: &mut Vec<HeldSymbol>, packet: &Packet<'_>) -> Result<(), AllocError>
-    ensures ok { OnOk result (Pushes symbols.old.items symbols.new.items packet.now) }
-    ensures err { OnErr result (symbols.new.items ≡ symbols.old.items) }
+/// The count of packets over the budget, with this one.
+fn drops_after(drops: u64, kept: &Kept) -> u64
+    ensures { result ≡ drops_after drops kept.now }
 {
-    let alloc = *symbols.allocator();
-    let row = Vec::from_slice(alloc, packet.symbol)?;
-    symbols.push(HeldSymbol {
-        toi: packet.toi,
-        oti: packet.oti,
-        sbn: packet.sbn,
-        esi: packet.esi,
-        row,
-    })?;
-    Ok(())
-}
-
-/// What a new packet has completed, where its symbol is among those that are held.
-fn done_by(symbols: &[HeldSymbol], packet: &Packet<'_>) -> Kept
-    ensures { result ≡ done_in (held_of symbols.now) packet.now }
-{
-    let held = held_in_block(symbols, packet.toi, &packet.oti, packet.sbn);
-    Kept::New {
-        block_done: held >= packet.oti.block_k(packet.sbn),
-        object_done: is_ready(symbols, packet.toi, &packet.oti),
-    }
-}
-
-/// The number of the new instance, where its descriptor isn't that of the old one.
-fn announcement(old: &Option<Instance>, new: &Option<Instance>) -> Option<u32>
-    ensures { result ≡ announced old.now new.now }
-{
-    let Some(new) = new else {
-        return None;
-    };
-    match old {
-        Some(old) if old.descriptor_toi == new.descriptor_toi => None,
-        _ => Some(new.number),
+    match kept {
+        Kept::OverBudget { .. } => drops.saturating_add(1),
+        _ => drops,
     }
 }

@@ -1,27 +1,16 @@
-use alc_packet::NotYet;
-
-/// What became of a packet of the receiver's session.
-#[derive(Clone, Copy, PartialEq, Eq, Debug)]
-pub enum Kept {
-    /// The symbol is held from now on. `block_done`: its source block has as many symbols as it
-    /// needs. `object_done`: its object is ready.
-    New { block_done: bool, object_done: bool },
-    /// The symbol was held already.
-    Repeat,
-    /// Anything else; nothing is held of it.
-    NotYet,
-}
+use alc_packet::Refusal;
+use object_store::Kept;
 
 /// What a receiver made of a datagram.
 #[derive(Clone, Copy, PartialEq, Eq, Debug)]
 pub enum Taken {
-    /// It is no packet.
-    Refused(NotYet),
+    /// It is no datagram of ALC as this code takes it; why.
+    Refused(Refusal),
     /// It belongs to this other session.
     Elsewhere {
         tsi: u64,
     },
-    /// It has no symbol.
+    /// It has no symbol; whether it closes the session.
     Control {
         close: bool,
     },

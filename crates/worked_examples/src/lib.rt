@@ -2,8 +2,20 @@
 #![tactic(auto)]
 
 #[cfg(test)]
+mod budgets;
+#[cfg(test)]
+mod failures;
+#[cfg(test)]
 mod logs;
+#[cfg(test)]
+mod objects;
+#[cfg(test)]
+mod packets;
 #[cfg(test)]
 mod playing;
 #[cfg(test)]
 mod replays;
+#[cfg(test)]
+mod sessions;
+#[cfg(test)]
+mod words;

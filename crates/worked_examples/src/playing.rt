@@ -1,7 +1,8 @@
 //! Runs over forms in memory.
 ghost use Rattle.std.specs.Prelude.{◌≤◌, All, IfOk};
 
-use edge_io::{LogReader, MemBytes, MemShelf, MemText, SureEmit, SureFiles};
+use crate::logs::log_of;
+use edge_io::{LogReader, MemBytes, MemShelf, MemText, ShelvedFile, SureEmit, SureFiles};
 use fcast_run::{Edge, run};
 use meta_text::Label;
 use std::alloc::{AllocError, Global};
@@ -98,4 +99,82 @@ fn push_ones(sizes: &mut Vec<usize>, count: usize) -> Result<(), AllocError>
         sizes.push(1)?;
     }
     Ok(())
+}
+
+/// What a run is to come to: its status, the report's first lines, which are the manifest too, and its other lines; the
+/// number of the finished instance on the shelf, and its files.
+#[derive(Clone, Copy)]
+pub struct Outcome<'a> {
+    pub status: u8,
+    pub best: &'a str,
+    pub rest: &'a str,
+    pub shelf: Option<(u32, &'a [(u128, &'a [u8])])>,
+}
+
+/// The report where nothing is installed.
+pub const NOTHING: &str = "nothing installed\n";
+
+/// The report of instance 1 with an empty list, from object 1.
+pub const REPORT_OF_1: &str = "instance 1\ndescriptor 1\nfiles 0\n";
+
+/// Nothing is installed, and nothing went wrong.
+pub const INSTALLS_NOTHING: Outcome<'static> = Outcome {
+    status: 2,
+    best: NOTHING,
+    rest: "",
+    shelf: None,
+};
+
+/// Instance 1 with an empty list is installed from object 1.
+pub const INSTALLS_1: Outcome<'static> = Outcome {
+    status: 0,
+    best: REPORT_OF_1,
+    rest: "",
+    shelf: Some((1, &[])),
+};
+
+/// Whether the words over a log of these datagrams come to this.
+pub fn comes_to(
+    alloc: Global,
+    words: &[&str],
+    datagrams: &[&[u8]],
+    outcome: &Outcome<'_>,
+) -> Result<bool, AllocError> {
+    let log = log_of(alloc, datagrams)?;
+    let ran = play(alloc, words, log.as_slice(), false, NONE)?;
+    Ok(is(&ran, outcome))
+}
+
+/// Whether the run came to this.
+pub fn is(ran: &Ran, outcome: &Outcome<'_>) -> bool {
+    ran.status == outcome.status
+        && is_report(ran.edge.text.written(), outcome)
+        && is_shelf(&ran.edge.shelf, outcome)
+}
+
+fn is_report(written: &[u8], outcome: &Outcome<'_>) -> bool {
+    let best = outcome.best.as_bytes();
+    written.get(..best.len()) == Some(best)
+        && written.get(best.len()..) == Some(outcome.rest.as_bytes())
+}
+
+fn is_shelf(shelf: &MemShelf, outcome: &Outcome<'_>) -> bool {
+    match (shelf.finished(), outcome.shelf) {
+        (None, None) => true,
+        (Some(finished), Some((number, files))) => {
+            finished.number() == number
+                && finished.manifest() == outcome.best.as_bytes()
+                && are_files(finished.files(), files)
+        }
+        _ => false,
+    }
+}
+
+fn are_files(held: &[ShelvedFile], files: &[(u128, &[u8])]) -> bool {
+    for (one, (toi, body)) in held.iter().zip(files) {
+        if one.toi() != *toi || one.body() != *body {
+            return false;
+        }
+    }
+    held.len() == files.len()
 }

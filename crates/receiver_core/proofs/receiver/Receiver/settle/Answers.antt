@@ -1,21 +1,68 @@
-use Rattle.std.proofs.Common.{◌∙◌, sym, ap, subst}
-use Rattle.receiver_core.specs.Receiving.{Receiving, Announces}
-use Rattle.receiver_core.specs.Best.{best}
-use Rattle.receiver_core.specs.Listed.{held_of}
-use Rattle.receiver_core.specs.Kept.{announced}
-use Rattle.receiver_core.proofs.Surveys.{best_of_held}
-use Rattle.receiver_core.proofs.Keeping.{kept_settled, announces_best}
+use Rattle.std.proofs.Common.{◌≡◌, ◌≢◌, ◌<◌, ℕ, List, true, false, cond, ◌∙◌, sym, ap, subst, arith, rules, length, take, None, Option}
+use Rattle.std.specs.Prelude.{is_some}
+use Rattle.std.specs.Option.{option_or}
+use Rattle.std.specs.BTreeMap.{get}
+use Rattle.std.specs.Ordering.{nat_cmp}
+use Rattle.carousel_cid.specs.Instances.{Shown}
+use Rattle.object_store.specs.Store.{is_in}
+use Rattle.object_store.specs.Whole.{whole}
+use Rattle.receiver_core.specs.declared.candidate.Candidate.{Candidate}
+use Rattle.receiver_core.specs.Best.{best, IsBestOf}
+use Rattle.receiver_core.specs.Receiver.{Receiver, Announces}
+use Rattle.receiver_core.specs.Inner.Settling.{IsSettling}
+use Rattle.receiver_core.proofs.Bests.{best_is}
+use Rattle.receiver_core.proofs.Settles.{found_best, found_told}
+use Rattle.receiver_core.proofs.Keeping.{settled_now, settled_best, forgotten, not_all_settled}
 use Rattle.receiver_core.proofs.receiver.Receiver.settle.Goals as goal
+
+pub returns-then-self-count-clause-best : goal.returns-then-self-count-clause-best
+returns-then-self-count-clause-best c =
+    let s = c.self.inside in
+    let all : s.settled ≡ length c.ready-count.result.now = search rules in
+    subst (λ (r : Receiver). r.installed ≡ best r.held) c.self.view_is (best_is s.store.held s.installed
+    (settled_best s.store s.standings s.candidates.items s.settled s.installed c.ready-count.ensures.listed c.self.invariant (all ∙ ap (length {A = ℕ}) c.ready-count.ensures.ready)))
+
+pub returns-then-self-count-clause-answer : goal.returns-then-self-count-clause-answer
+returns-then-self-count-clause-answer c =
+    let s = c.self.inside in
+    let all : s.settled ≡ length c.ready-count.result.now = search rules in
+    subst (λ (r : Receiver). best r.held ≡ r.installed) c.self.view_is (sym (best_is s.store.held s.installed
+    (settled_best s.store s.standings s.candidates.items s.settled s.installed c.ready-count.ensures.listed c.self.invariant (all ∙ ap (length {A = ℕ}) c.ready-count.ensures.ready))))
 
 pub invariant_of-self : goal.invariant_of-self
 invariant_of-self c =
-    kept_settled c.self.inside.symbols.items c.self.inside.budget c.self.inside.count c.self.inside.installed c.in_ok-findings.findings.best c.self.invariant
-    (c.in_ok-findings.ensures.best ∙ ap (λ ss. best (held_of ss)) c.as_slice.ensures.value)
+    let s = c.self.inside in
+    subst (λ n. IsSettling s.store c.find.new.standings c.find.new.candidates.items n c.install.new.installed) (ap (length {A = ℕ}) (sym c.ready-count.ensures.ready))
+    (settled_now s.store c.find.new.standings c.find.new.candidates.items c.install.new.installed c.ready-count.ensures.listed c.in-Ok.ensures.standings c.in-Ok.ensures.candidates c.in-Ok.ensures.every
+    (subst (IsBestOf (whole s.store.held)) (sym c.install.ensures.installed) (found_best (whole s.store.held) s.installed c.in-Ok.found c.in-Ok.ensures.found)))
 
-pub returns-clause-answer : goal.returns-clause-answer
-returns-clause-answer c =
-    let found = c.in_ok-findings.ensures.best ∙ ap (λ ss. best (held_of ss)) c.as_slice.ensures.value in
-    let held = held_of c.self.inside.symbols.items in
-    subst (λ (r : Receiving). Announces c.announcement-number.result r.installed (best r.held)) c.self.view_is
-    (subst (λ n. Announces n c.self.inside.installed (best held)) (sym (c.announcement-number.ensures ∙ ap (announced c.self.inside.installed) found))
-    (announces_best held c.self.inside.installed (best held) c.self.invariant.standing (best_of_held held)))
+pub invariant_of-self-in-Err : goal.invariant_of-self-in-Err
+invariant_of-self-in-Err c =
+    let s = c.self.inside in
+    subst (λ (cs : List Candidate). IsSettling s.store c.forget.new.standings cs s.settled s.installed)
+    (ap (λ (cs : List Candidate). take (length cs) c.find.new.candidates.items) (sym c.as_slice-before.ensures.value) ∙ sym c.truncate.ensures.items)
+    (forgotten s.store s.standings c.find.new.standings c.forget.new.standings s.candidates.items c.find.new.candidates.items s.settled s.installed c.ready-count.ensures.listed c.self.invariant
+    c.in-Err.ensures.others
+    (λ t. c.forget.ensures t ∙ ap (λ ts. cond (is_in t ts) None (get nat_cmp c.find.new.standings t)) c.fresh_of.ensures.fresh)
+    c.in-Err.ensures.candidates c.in-Err.ensures.front)
+
+pub returns-in-Ok-clause-best : goal.returns-in-Ok-clause-best
+returns-in-Ok-clause-best c =
+    let s = c.self.inside in
+    subst (λ (r : Receiver). c.install.new.installed ≡ best r.held) c.self.view_is (best_is s.store.held c.install.new.installed (subst (IsBestOf (whole s.store.held)) (sym c.install.ensures.installed) (found_best (whole s.store.held) s.installed c.in-Ok.found c.in-Ok.ensures.found)))
+
+pub returns-in-Ok-clause-answer : goal.returns-in-Ok-clause-answer
+returns-in-Ok-clause-answer c =
+    let s = c.self.inside in
+    let is = best_is s.store.held (option_or c.in-Ok.found s.installed) (found_best (whole s.store.held) s.installed c.in-Ok.found c.in-Ok.ensures.found) in
+    subst (λ (r : Receiver). Announces c.install.result r.installed (best r.held)) c.self.view_is
+    (subst (λ (b : Option Shown). Announces c.install.result s.installed b) is
+    (subst (λ (n : Option ℕ). Announces n s.installed (option_or c.in-Ok.found s.installed)) (sym c.install.ensures.number) (found_told (whole s.store.held) s.installed c.in-Ok.found c.in-Ok.ensures.found)))
+
+pub returns-in-Err-clause-no_memory : goal.returns-in-Err-clause-no_memory
+returns-in-Err-clause-no_memory c =
+    let s = c.self.inside in
+    let other : s.settled ≢ length c.ready-count.result.now = search rules in
+    let less : s.settled < length s.store.ready = omega (arith, c.self.invariant.within, ap (length {A = ℕ}) c.ready-count.ensures.ready, other) in
+    subst (λ (r : Receiver). ((t : ℕ) → is_some (whole r.held t) ≡ true → is_in t r.settled ≡ true) → false ≡ true) c.self.view_is
+    (λ all. absurd (not_all_settled s.store s.settled c.ready-count.ensures.listed less all))

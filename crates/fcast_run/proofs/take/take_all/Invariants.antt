@@ -1,0 +1,19 @@
+-- the datagrams before this one are taken
+use Rattle.std.proofs.Common.{◌≡◌, ◌≤◌, length, take, drop}
+use Rattle.fcast_run.specs.Inner.HasTaken.{HasTaken}
+use Rattle.fcast_run.proofs.take.take_all.Given as goal
+
+abbrev pub invariant-loop-taken : goal.invariant-loop-taken
+invariant-loop-taken g l = let D = g.D.Datagrams in record {
+  tsi : l.receiver.tsi ≡ l.fn.receiver.tsi;
+  budget : l.receiver.budget ≡ l.fn.receiver.budget;
+  few : l.receiver.drops ≤ l._taken;
+  told : D.told l.fn.datagrams → D.told l.datagrams;
+  more : D.told l.fn.datagrams → l._taken ≤ length (D.left l.fn.datagrams);
+  left : D.told l.fn.datagrams → D.left l.datagrams ≡ drop l._taken (D.left l.fn.datagrams);
+  torn : D.told l.fn.datagrams → D.torn l.datagrams ≡ D.torn l.fn.datagrams;
+  taken : D.told l.fn.datagrams → HasTaken l.receiver (take l._taken (D.left l.fn.datagrams));
+  place : D.connected l.datagrams ≡ D.connected l.fn.datagrams;
+  grows : D.faults l.fn.datagrams ≤ D.faults l.datagrams;
+  room : 65535 ≤ length l.buffer;
+}

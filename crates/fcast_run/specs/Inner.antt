@@ -1,0 +1,3 @@
+pub mod HasTaken
+pub mod Answers
+pub mod Ranges

@@ -1,0 +1,12 @@
+-- A receiver that has taken a list of datagrams.
+use Rattle.std.specs.Prelude.{◌≡◌, ℕ, List}
+use Rattle.object_store.specs.Verdict.{held_after}
+use Rattle.object_store.specs.KeptSet.{drops}
+use Rattle.receiver_core.specs.Classes.{packets_of}
+use Rattle.receiver_core.specs.Best.{installed_after}
+use Rattle.receiver_core.specs.Receiver.{Receiver}
+
+pub record HasTaken (r : Receiver) (datagrams : List (List ℕ)) : Type 0 where
+  pub held : r.held ≡ held_after r.budget (packets_of r.tsi datagrams)
+  pub installed : r.installed ≡ installed_after r.budget (packets_of r.tsi datagrams)
+  pub drops : r.drops ≡ drops r.budget (packets_of r.tsi datagrams)

@@ -1,0 +1,33 @@
+//! Writing to the text of a run.
+ghost use Rattle.std.specs.Prelude.{◌≡◌, IfOk};
+ghost use Rattle.edge_io.specs.Faults.{Rose};
+ghost use Rattle.fcast_run.specs.Texts.{usage_line};
+ghost use Rattle.fcast_run.specs.Inner.Answers.{Blames, LeavesText};
+
+use crate::fault::Fault;
+use edge_io::{Text, Trouble};
+
+/// What words that are no command get.
+const USAGE: &str = "usage: replay, recv, send, dump, drill or listen\n";
+
+/// Writes the usage line, and answers its status.
+pub fn tell_usage<T: Text>(text: &mut T) -> Result<u8, Fault>
+    ensures status { IfOk result (λ s. s ≡ 1) }
+    ensures text { T.told text.old → LeavesText result usage_line (T.written text.old) (T.written text.new) }
+    ensures blames { Blames result ⊥ (Rose (T.faults text.old) (T.faults text.new)) ⊥ }
+{
+    tell(text, USAGE, 1)
+}
+
+/// Writes the lines to the text in one piece, and answers the status.
+pub fn tell<T: Text>(text: &mut T, lines: &str, status: u8) -> Result<u8, Fault>
+    ensures status { IfOk result (λ s. s ≡ status) }
+    ensures text { T.told text.old → LeavesText result lines.now (T.written text.old) (T.written text.new) }
+    ensures blames { Blames result ⊥ (Rose (T.faults text.old) (T.faults text.new)) ⊥ }
+{
+    match text.write(lines.as_bytes()) {
+        Ok(()) => Ok(status),
+        Err(Trouble::Failed) => Err(Fault::Text),
+        Err(Trouble::Memory) => Err(Fault::Memory),
+    }
+}

@@ -1,0 +1,20 @@
+use Rattle.std.proofs.Common.{◌≡◌, ◌∙◌, Some, None, sym, ap, unwrap_or}
+use Rattle.object_store.specs.Inner.BlockHeld.{BlockHeld, held_in}
+use Rattle.object_store.specs.Inner.ObjectHeld.{ObjectHeld, block_at, unopened, symbols_in}
+use Rattle.object_store.specs.Inner.ObjectParts.{object_of}
+use Rattle.object_store.proofs.WithPacket.{block_in_tree, held_is_symbols, none_in}
+use Rattle.object_store.proofs.object.Object.held.Goals as goal
+
+pub returns-in-Some : goal.returns-in-Some
+returns-in-Some c =
+    let v = c.self.inside in
+    let o = object_of v.oti v.parts in
+    let here : block_at o c.args.sbn ≡ c.in-Some.block.now = block_in_tree v.oti v.parts c.args.sbn ∙ ap (λ r. unwrap_or r (unopened v.oti c.args.sbn)) (sym c.in-Some.ensures.value) in
+    c.len.ensures.held ∙ ap held_in (sym here) ∙ held_is_symbols o c.args.sbn (c.self.invariant.shaped c.args.sbn) ∙ ap (λ (u : ObjectHeld). symbols_in u c.args.sbn) c.self.view_is
+
+pub returns-in-None : goal.returns-in-None
+returns-in-None c =
+    let v = c.self.inside in
+    let o = object_of v.oti v.parts in
+    let here : block_at o c.args.sbn ≡ unopened v.oti c.args.sbn = block_in_tree v.oti v.parts c.args.sbn ∙ ap (λ r. unwrap_or r (unopened v.oti c.args.sbn)) (sym c.in-None.ensures.value) in
+    sym (none_in o c.args.sbn here) ∙ ap (λ (u : ObjectHeld). symbols_in u c.args.sbn) c.self.view_is

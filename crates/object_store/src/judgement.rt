@@ -1,0 +1,12 @@
+//! What is to be done with a packet.
+
+use crate::kept::Kept;
+
+/// Whether a packet's symbol joins what is held.
+#[derive(Clone, Copy)]
+pub enum Judgement {
+    /// It joins, and adds so much to the byte count.
+    Joins(u64),
+    /// It doesn't.
+    Stays(Kept),
+}

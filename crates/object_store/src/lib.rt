@@ -1,0 +1,18 @@
+//! What is held of a session's packets.
+#![tactic(auto)]
+
+mod block;
+mod finding;
+mod judgement;
+mod kept;
+pub mod laws;
+mod object;
+mod objects;
+mod parts;
+mod store;
+
+pub use kept::Kept;
+pub use store::Store;
+
+#[cfg(test)]
+mod tests;

@@ -1,0 +1,5 @@
+pub mod Candidates
+pub mod Choice
+pub mod Drops
+pub mod Standings
+pub mod Settling
