@@ -6,7 +6,6 @@ use edge_io::{
 };
 use fcast_run::{Edge, run};
 use meta_text::Label;
-use std::alloc::AllocError;
 use std::io::{BufReader, BufWriter, Eprint, ErrorKind};
 use std::process::ExitCode;
 use std::rt::Env;
@@ -30,7 +29,8 @@ fn main(rt: HostRuntime) -> ExitCode {
     };
     let status = match run_outside(rt, words.as_slice()) {
         Ok(status) => status,
-        Err(AllocError) => NO_MEMORY,
+        // Only a buffer's memory is asked for.
+        Err(_) => NO_MEMORY,
     };
     if status == NO_MEMORY {
         tell(&rt, "memory", &None);
@@ -39,7 +39,7 @@ fn main(rt: HostRuntime) -> ExitCode {
 }
 
 /// Runs the command over the real forms, and says which of them failed.
-fn run_outside(rt: HostRuntime, words: &[Label]) -> Result<u8, AllocError> {
+fn run_outside(rt: HostRuntime, words: &[Label]) -> io::Result<u8> {
     let alloc = rt.alloc();
     let input = BufReader::with_capacity(alloc, PIECE, rt.stdin())?;
     let output = BufWriter::with_capacity(alloc, PIECE, rt.stdout())?;
