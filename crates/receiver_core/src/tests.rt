@@ -1,4 +1,0 @@
-mod costs;
-mod datagrams;
-mod instances;
-mod objects;
