@@ -1,5 +1,6 @@
 -- The lines of a packet's values hold exactly where the values make no packet.
-use Rattle.std.proofs.Common.{◌≡◌, ℕ, ◌+◌, ◌^◌, ◌<◌, Bool, true, false, not, cond, List, [], ◌∷◌, length, drop, Option, Some, None, refl, sym, ap, ◌∙◌, arith, inl, inr, ◌⊎◌}
+use Rattle.std.proofs.Common.{◌≡◌, ℕ, ◌+◌, ◌^◌, ◌<◌, Bool, true, false, not, cond, List, [], ◌∷◌, length, drop, Option, Some, None}
+use Rattle.std.proofs.Common.{refl, sym, ap, ◌∙◌, arith, inl, inr, ◌⊎◌}
 use Rattle.std.specs.Prelude.{◌==◌, ◌&&◌, option_map, position}
 use Rattle.std.specs.List.{position_from}
 use Rattle.std.proofs.lemmas.Bool.{eqb-true, eq-eqb, leb-false, lt-leb, and_parts, and_from, and_left, and_right}
@@ -38,7 +39,8 @@ mapped_none f (Some x) e = absurd cc
 
 zeros_behind : (start : ℕ) (symbol : List ℕ) → bad_fill start symbol ≡ None → are_zero (drop start symbol) ≡ true
 zeros_behind start symbol e =
-    zeros_from 0 (drop start symbol) (sym (position_from-zero (λ x. not (x == 0)) (drop start symbol)) ∙ mapped_none (λ i. start + i) (position (λ x. not (x == 0)) (drop start symbol)) e)
+    zeros_from 0 (drop start symbol) (sym (position_from-zero (λ x. not (x == 0)) (drop start symbol))
+    ∙ mapped_none (λ i. start + i) (position (λ x. not (x == 0)) (drop start symbol)) e)
 
 no_bad_fill : (start : ℕ) (symbol : List ℕ) → are_zero (drop start symbol) ≡ true → bad_fill start symbol ≡ None
 no_bad_fill start symbol e = ap (option_map (λ i. start + i)) (position_from-zero (λ x. not (x == 0)) (drop start symbol) ∙ none_from 0 (drop start symbol) e)
@@ -65,7 +67,8 @@ one_holds false false e = absurd cc
 filled : (p : SymbolPacket) → is_whole p ≡ true → fill_not_zero p ≡ None → IsLastSource p → are_zero (drop (last_length p.oti) p.symbol) ≡ true
 filled p whole none last =
     let test : (is_last p && is_whole p) ≡ true = and_from (is_last p) (is_whole p) (test_from_last p last) whole in
-    let same : option_map (λ at. FillNotZero at) (bad_fill (last_length p.oti) p.symbol) ≡ None = sym (ap (λ (b : Bool). cond b (option_map (λ at. FillNotZero at) (bad_fill (last_length p.oti) p.symbol)) None) test) ∙ none in
+    let same : option_map (λ at. FillNotZero at) (bad_fill (last_length p.oti) p.symbol) ≡ None =
+    sym (ap (λ (b : Bool). cond b (option_map (λ at. FillNotZero at) (bad_fill (last_length p.oti) p.symbol)) None) test) ∙ none in
     zeros_behind (last_length p.oti) p.symbol (mapped_none (λ at. FillNotZero at) (bad_fill (last_length p.oti) p.symbol) same)
 
 pub packet_from_lines : (p : SymbolPacket) → p.tsi < 2 ^ 48 → p.toi < 2 ^ 112 → IsSound p.oti → first_fault (packet_lines p) ≡ None → IsPacket p
@@ -94,7 +97,8 @@ packet_from_lines p tsi toi sound e =
 length_right : (p : SymbolPacket) → HasWholeSymbol p ⊎ HasCutSymbol p → (not (is_whole p) && not (is_cut p)) ≡ false
 length_right p symbol = elim symbol [
   | inl whole ↦ and_left (not (is_whole p)) (not (is_cut p)) (ap not (eq-eqb (length p.symbol) p.oti.symbol whole.whole))
-  | inr cut ↦ and_right (not (is_whole p)) (not (is_cut p)) (ap not (and_from (is_last p) (length p.symbol == last_length p.oti) (test_from_last p cut.last) (eq-eqb (length p.symbol) (last_length p.oti) cut.cut)))
+  | inr cut ↦ and_right (not (is_whole p)) (not (is_cut p))
+      (ap not (and_from (is_last p) (length p.symbol == last_length p.oti) (test_from_last p cut.last) (eq-eqb (length p.symbol) (last_length p.oti) cut.cut)))
 ]
 
 -- and where it is whole and the last one, its end is zero
@@ -104,7 +108,8 @@ end_zero p symbol last = elim symbol [
   | inr cut ↦ ap are_zero (drop_all (last_length p.oti) p.symbol (omega (arith, cut.cut)))
 ]
 
-right_fill : (p : SymbolPacket) (test : Bool) → (is_last p && is_whole p) ≡ test → HasWholeSymbol p ⊎ HasCutSymbol p → cond test (option_map (λ at. FillNotZero at) (bad_fill (last_length p.oti) p.symbol)) None ≡ None
+right_fill : (p : SymbolPacket) (test : Bool) → (is_last p && is_whole p) ≡ test → HasWholeSymbol p ⊎ HasCutSymbol p
+    → cond test (option_map (λ at. FillNotZero at) (bad_fill (last_length p.oti) p.symbol)) None ≡ None
 right_fill p true e symbol =
     let parts = and_parts (is_last p) (is_whole p) e in
     ap (option_map (λ at. FillNotZero at)) (no_bad_fill (last_length p.oti) p.symbol (end_zero p symbol (last_from_test p parts.0)))

@@ -21,7 +21,8 @@ use Rattle.alc_packet.specs.declared.refusal.Refusal.{Refusal}
 use Rattle.alc_packet.specs.Packet.{SymbolPacket}
 use Rattle.alc_packet.specs.Pieces.{Pieces, ArePieces, fti_contents}
 use Rattle.alc_packet.specs.Datagram.{Spells}
-use Rattle.alc_packet.specs.Refusal.{of_header, other_scheme, no_toi, no_fti, fti_twice, of_information, content_of, unsound, no_payload_id, packet_lines, packet_in, lines}
+use Rattle.alc_packet.specs.Refusal.{of_header, other_scheme, no_toi, no_fti, fti_twice, of_information, content_of, unsound}
+use Rattle.alc_packet.specs.Refusal.{no_payload_id, packet_lines, packet_in, lines}
 use Rattle.alc_packet.specs.Answer.{Says}
 use Rattle.alc_packet.specs.Inner.Reading.{reading}
 use Rattle.alc_packet.specs.Reply.{as_datagram, pieces_of, payload_answer, view_answer, reply}
@@ -40,14 +41,16 @@ some_payload : (v : HeaderView) (payload : List ℕ) → 0 < length payload → 
 some_payload v [] more = absurd (omega arith)
 some_payload v (byte ∷ bytes) more = refl
 
-same_pieces : (x : Pieces) (header : Header) (ftis : List (List ℕ)) → header ≡ x.header → ftis ≡ x.ftis → ◌≡◌ {A = Pieces} (record { header = header; ftis = ftis; payload = x.payload }) x
+same_pieces : (x : Pieces) (header : Header) (ftis : List (List ℕ)) → header ≡ x.header
+    → ftis ≡ x.ftis → ◌≡◌ {A = Pieces} (record { header = header; ftis = ftis; payload = x.payload }) x
 same_pieces x header ftis a b = rw (a, b) refl
 
 past_pieces : (d : List ℕ) (x : Pieces) → ArePieces d x → 0 < length x.payload → reply d ≡ as_datagram (reading x)
 past_pieces d x are more =
     past_header d are.view x.payload are.begins
     ∙ some_payload are.view x.payload more
-    ∙ ap (λ (y : Pieces). as_datagram (reading y)) (same_pieces x are.view.header (fti_contents (extensions_in are.view.area)) (sym are.header) (ap fti_contents (extensions_in-area are.view.area are.extensions are.listed) ∙ sym are.ftis))
+    ∙ ap (λ (y : Pieces). as_datagram (reading y)) (same_pieces x are.view.header (fti_contents (extensions_in are.view.area))
+    (sym are.header) (ap fti_contents (extensions_in-area are.view.area are.extensions are.listed) ∙ sym are.ftis))
 
 -- ---- a packet that is spelled is read
 
@@ -70,10 +73,12 @@ no_line d p is =
     let x = is.pieces in
     let values = packet_lines (packet_in x) in
     let one : length x.ftis ≡ 1 = ap length is.information in
-    let sound : unsound x ≡ None = ap (λ (ftis : List (List ℕ)). option_map of_information (fti_fault (content_of ftis))) is.information ∙ ap (option_map of_information) (no_fti_fault p.oti is.packet.sound) in
+    let sound : unsound x ≡ None = ap (λ (ftis : List (List ℕ)). option_map of_information (fti_fault (content_of ftis))) is.information
+    ∙ ap (option_map of_information) (no_fti_fault p.oti is.packet.sound) in
     let long : 4 ≤ length x.payload = omega (arith, ap length is.payload) in
     past (other_scheme x) (no_toi x ∷ no_fti x ∷ fti_twice x ∷ unsound x ∷ no_payload_id x ∷ values) (fault_is_none _ _ (ap not (eq-eqb _ _ is.scheme)))
-    ∙ past (no_toi x) (no_fti x ∷ fti_twice x ∷ unsound x ∷ no_payload_id x ∷ values) (fault_is_none _ _ (ne_eqb x.header.toi_bits 0 (λ e. omega (arith, e, is.some_toi))))
+    ∙ past (no_toi x) (no_fti x ∷ fti_twice x ∷ unsound x ∷ no_payload_id x ∷ values)
+    (fault_is_none _ _ (ne_eqb x.header.toi_bits 0 (λ e. omega (arith, e, is.some_toi))))
     ∙ past (no_fti x) (fti_twice x ∷ unsound x ∷ no_payload_id x ∷ values) (fault_is_none _ _ (ne_eqb (length x.ftis) 0 (λ e. omega (arith, e, one))))
     ∙ past (fti_twice x) (unsound x ∷ no_payload_id x ∷ values) (fault_is_none _ _ (le-ltb 1 (length x.ftis) (omega (arith, one))))
     ∙ past (unsound x) (no_payload_id x ∷ values) sound
@@ -104,7 +109,8 @@ one_answer d a b says also = sym (answered d a says) ∙ answered d b also
 
 -- ---- and there is one
 
-by_reading : (d : List ℕ) (x : Pieces) → AreBytes d → ArePieces d x → 0 < length x.payload → (r : Result SymbolPacket Refusal) → reading x ≡ r → (a : Result Datagram Refusal) × Says d a
+by_reading : (d : List ℕ) (x : Pieces) → AreBytes d → ArePieces d x → 0 < length x.payload
+    → (r : Result SymbolPacket Refusal) → reading x ≡ r → (a : Result Datagram Refusal) × Says d a
 by_reading d x bytes are more (Ok p) e = (Ok (Symbol p), read_spells d x p bytes are e)
 by_reading d x bytes are more (Err r) e = (Err r, read_refuses d x r are more e)
 

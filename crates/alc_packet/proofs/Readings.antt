@@ -61,7 +61,8 @@ pub refused_header : (x : Pieces) (r : Refusal) → Some r ≡ first_fault (head
 refused_header x r e = sym (refused_by x r (front_held (header_lines x) (no_fti x ∷ fti_twice x ∷ unsound x ∷ no_payload_id x ∷ packet_lines (packet_in x)) r (sym e)))
 
 -- the lines behind those of the header decide
-past_header : (x : Pieces) → None ≡ first_fault (header_lines x) → first_fault (lines x) ≡ first_fault (no_fti x ∷ fti_twice x ∷ unsound x ∷ no_payload_id x ∷ packet_lines (packet_in x))
+past_header : (x : Pieces) → None ≡ first_fault (header_lines x) → first_fault (lines x)
+    ≡ first_fault (no_fti x ∷ fti_twice x ∷ unsound x ∷ no_payload_id x ∷ packet_lines (packet_in x))
 past_header x e = front_passed (header_lines x) (no_fti x ∷ fti_twice x ∷ unsound x ∷ no_payload_id x ∷ packet_lines (packet_in x)) (sym e)
 
 -- ---- the EXT_FTI
@@ -75,11 +76,13 @@ count_held [] behind r e = cc
 count_held (content ∷ []) behind r e = absurd cc
 count_held (content ∷ other ∷ others) behind r e =
     let twice : ltb 1 (length (content ∷ other ∷ others)) ≡ true = lt-ltb 1 (length (content ∷ other ∷ others)) (omega arith) in
-    past_cause (eqb (length (content ∷ other ∷ others)) 0) NoFti (fault_when (ltb 1 (length (content ∷ other ∷ others))) FtiTwice ∷ behind) (ne_eqb (length (content ∷ other ∷ others)) 0 (λ z. omega (arith, z)))
+    past_cause (eqb (length (content ∷ other ∷ others)) 0) NoFti (fault_when (ltb 1 (length (content ∷ other ∷ others))) FtiTwice ∷ behind)
+    (ne_eqb (length (content ∷ other ∷ others)) 0 (λ z. omega (arith, z)))
     ∙ held_first (ltb 1 (length (content ∷ other ∷ others))) FtiTwice behind twice
     ∙ cc
 
-count_passed : (ftis : List (List ℕ)) (behind : List (Option Refusal)) (content : List ℕ) → only_of ftis ≡ Ok content → (first_fault (count_lines ftis behind) ≡ first_fault behind) × (content_of ftis ≡ content)
+count_passed : (ftis : List (List ℕ)) (behind : List (Option Refusal)) (content : List ℕ) → only_of ftis ≡ Ok content
+    → (first_fault (count_lines ftis behind) ≡ first_fault behind) × (content_of ftis ≡ content)
 count_passed [] behind content e = absurd cc
 count_passed (only ∷ []) behind content e = (refl, cc)
 count_passed (only ∷ other ∷ others) behind content e = absurd cc
@@ -94,7 +97,8 @@ pub record HasContent (x : Pieces) (content : List ℕ) : Type 0 where
   pub header : None ≡ first_fault (header_lines x)
   pub only : only_of x.ftis ≡ Ok content
 
-past_content : (x : Pieces) (content : List ℕ) → HasContent x content → (first_fault (lines x) ≡ first_fault (unsound x ∷ no_payload_id x ∷ packet_lines (packet_in x))) × (content_of x.ftis ≡ content)
+past_content : (x : Pieces) (content : List ℕ) → HasContent x content
+    → (first_fault (lines x) ≡ first_fault (unsound x ∷ no_payload_id x ∷ packet_lines (packet_in x))) × (content_of x.ftis ≡ content)
 past_content x content has =
     let behind = unsound x ∷ no_payload_id x ∷ packet_lines (packet_in x) in
     let count = count_passed x.ftis behind content has.only in
@@ -109,10 +113,12 @@ none_read : (fault : Option OtiFault) (o oti : ObjectInformation) → Ok oti ≡
 none_read None o oti e = (refl, cc)
 none_read (Some other) o oti e = absurd cc
 
-pub refused_information : (x : Pieces) (content : List ℕ) (fault : OtiFault) → HasContent x content → Err fault ≡ unless_fault (fti_fault content) (stated content) → Err (of_information fault) ≡ reading x
+pub refused_information : (x : Pieces) (content : List ℕ) (fault : OtiFault) → HasContent x content
+    → Err fault ≡ unless_fault (fti_fault content) (stated content) → Err (of_information fault) ≡ reading x
 refused_information x content fault has e =
     let before = past_content x content has in
-    let line : unsound x ≡ Some (of_information fault) = ap (λ (c : List ℕ). option_map of_information (fti_fault c)) before.1 ∙ ap (option_map of_information) (fault_read (fti_fault content) (stated content) fault e) in
+    let line : unsound x ≡ Some (of_information fault) = ap (λ (c : List ℕ). option_map of_information (fti_fault c)) before.1
+    ∙ ap (option_map of_information) (fault_read (fti_fault content) (stated content) fault e) in
     sym (refused_by x (of_information fault) (before.0 ∙ ap (λ (o : Option Refusal). first_fault (o ∷ no_payload_id x ∷ packet_lines (packet_in x))) line))
 
 -- ---- the payload
@@ -123,7 +129,8 @@ pub record HasInformation (x : Pieces) (oti : ObjectInformation) : Type 0 where
   pub has : HasContent x content
   pub read : Ok oti ≡ unless_fault (fti_fault content) (stated content)
 
-past_information : (x : Pieces) (oti : ObjectInformation) → HasInformation x oti → (first_fault (lines x) ≡ first_fault (no_payload_id x ∷ packet_lines (packet_in x))) × ((packet_in x).oti ≡ oti)
+past_information : (x : Pieces) (oti : ObjectInformation) → HasInformation x oti
+    → (first_fault (lines x) ≡ first_fault (no_payload_id x ∷ packet_lines (packet_in x))) × ((packet_in x).oti ≡ oti)
 past_information x oti is =
     let before = past_content x is.content is.has in
     let sound = none_read (fti_fault is.content) (stated is.content) oti is.read in
@@ -132,16 +139,21 @@ past_information x oti is =
 
 pub refused_payload : (x : Pieces) (oti : ObjectInformation) → HasInformation x oti → length x.payload < 4 → Err NoPayloadId ≡ reading x
 refused_payload x oti is short =
-    sym (refused_by x NoPayloadId ((past_information x oti is).0 ∙ held_first (ltb (length x.payload) 4) NoPayloadId (packet_lines (packet_in x)) (lt-ltb (length x.payload) 4 short)))
+    sym (refused_by x NoPayloadId ((past_information x oti is).0
+    ∙ held_first (ltb (length x.payload) 4) NoPayloadId (packet_lines (packet_in x)) (lt-ltb (length x.payload) 4 short)))
 
 -- ---- the values
 
 -- only the lines of the values are left
-pub past_payload : (x : Pieces) (oti : ObjectInformation) → HasInformation x oti → 4 ≤ length x.payload → (reading x ≡ unless_fault (first_fault (packet_lines (packet_in x))) (packet_in x)) × ((packet_in x).oti ≡ oti)
+pub past_payload : (x : Pieces) (oti : ObjectInformation) → HasInformation x oti → 4 ≤ length x.payload
+    → (reading x ≡ unless_fault (first_fault (packet_lines (packet_in x))) (packet_in x)) × ((packet_in x).oti ≡ oti)
 unfolding reading
 past_payload x oti is long =
-    let before = past_information x oti is in
-    (ap (λ (fault : Option Refusal). unless_fault fault (packet_in x)) (before.0 ∙ past_cause (ltb (length x.payload) 4) NoPayloadId (packet_lines (packet_in x)) (le-ltb (length x.payload) 4 long)), before.1)
+    let before = past_information x oti is in (
+      ap (λ (fault : Option Refusal). unless_fault fault (packet_in x))
+          (before.0 ∙ past_cause (ltb (length x.payload) 4) NoPayloadId (packet_lines (packet_in x)) (le-ltb (length x.payload) 4 long)),
+      before.1,
+    )
 
 -- what is known of the pieces once no line of their values holds
 pub record HasValues (x : Pieces) (oti : ObjectInformation) : Type 0 where

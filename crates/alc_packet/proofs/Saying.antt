@@ -1,5 +1,6 @@
 -- What is read of a datagram is what it says.
-use Rattle.std.proofs.Common.{◌≡◌, ◌≢◌, ℕ, ◌-◌, ◌<◌, ◌≤◌, Bool, true, false, not, cond, List, [], ◌∷◌, ◌++◌, length, get_or, take, drop, drop-cons, None, Ok, Err, refl, sym, ap, subst, ◌∙◌, arith, inr}
+use Rattle.std.proofs.Common.{◌≡◌, ◌≢◌, ℕ, ◌-◌, ◌<◌, ◌≤◌, Bool, true, false, not, cond, List, [], ◌∷◌, ◌++◌, length, get_or, take}
+use Rattle.std.proofs.Common.{drop, drop-cons, None, Ok, Err, refl, sym, ap, subst, ◌∙◌, arith, inr}
 use Rattle.std.specs.Prelude.{◌==◌}
 use Rattle.std.proofs.lemmas.Bool.{eqb-true, eqb-false, ltb-false}
 use Rattle.std.proofs.lemmas.List.{take_all, length-drop}
@@ -34,14 +35,24 @@ pub are_cut : (d : List ℕ) (w v : HeaderView) (es : List Extension) → w ≡ 
     → ArePieces d (record { header = w.header; ftis = fti_contents es; payload = take (length d - w.length) (drop w.length d) })
 are_cut d w v es same (rest, begins) listed =
     let payload : rest ≡ take (length d - w.length) (drop w.length d) =
-    rest_is d v rest begins ∙ ap (λ (u : HeaderView). drop u.length d) (sym same) ∙ sym (take_all (length d - w.length) (drop w.length d) (omega (arith, length-drop w.length d))) in
-    record { view = v; extensions = es; begins = subst (λ (xs : List ℕ). BeginsWithHeader d v xs) payload begins; listed = listed; header = ap (λ (u : HeaderView). u.header) same; ftis = refl }
+    rest_is d v rest begins ∙ ap (λ (u : HeaderView). drop u.length d) (sym same)
+    ∙ sym (take_all (length d - w.length) (drop w.length d) (omega (arith, length-drop w.length d))) in
+    record {
+      view = v;
+      extensions = es;
+      begins = subst (λ (xs : List ℕ). BeginsWithHeader d v xs) payload begins;
+      listed =
+          listed;
+      header = ap (λ (u : HeaderView). u.header) same;
+      ftis = refl;
+    }
 
 -- they are of bytes
 header_of_pieces : (d : List ℕ) (x : Pieces) → AreBytes d → ArePieces d x → IsHeader x.header
 header_of_pieces d x bytes are = subst IsHeader (sym are.header) (header_is d are.view x.payload bytes are.begins)
 
-content_on : (b : Bool) (e : Extension) (others : List (List ℕ)) → AreBytes e.content → AreBytes (content_of others) → AreBytes (content_of (cond b (e.content ∷ others) others))
+content_on : (b : Bool) (e : Extension) (others : List (List ℕ)) → AreBytes e.content
+    → AreBytes (content_of others) → AreBytes (content_of (cond b (e.content ∷ others) others))
 content_on true e others here later = here
 content_on false e others here later = later
 
@@ -52,7 +63,8 @@ contents_bytes area (e ∷ es) bytes are =
     content_on (e.het == fti_type) e (fti_contents es) parts.0 (contents_bytes are.1 es parts.1 are.4)
 
 content_bytes : (d : List ℕ) (x : Pieces) → AreBytes d → ArePieces d x → AreBytes (content_of x.ftis)
-content_bytes d x bytes are = subst (λ (ftis : List (List ℕ)). AreBytes (content_of ftis)) (sym are.ftis) (contents_bytes are.view.area are.extensions (area_bytes d are.view x.payload bytes are.begins) are.listed)
+content_bytes d x bytes are = subst (λ (ftis : List (List ℕ)). AreBytes (content_of ftis)) (sym are.ftis)
+    (contents_bytes are.view.area are.extensions (area_bytes d are.view x.payload bytes are.begins) are.listed)
 
 -- ---- what the lines leave
 
@@ -67,14 +79,17 @@ only_one (content ∷ other ∷ others) some few = absurd (omega (arith, few))
 
 -- a content without a fault is of ten bytes, whose values are sound
 ten_bytes : (content : List ℕ) → fti_fault content ≡ None → length content ≡ 10
-ten_bytes content none = eqb-true _ _ (holds _ (cause_fails _ _ (none_hold (fault_when (not (length content == 10)) (FtiLength (length content))) (information_faults (stated content)) none).0))
+ten_bytes content none =
+    eqb-true _ _ (holds _ (cause_fails _ _ (none_hold (fault_when (not (length content == 10)) (FtiLength (length content))) (information_faults (stated content)) none).0))
 
 sound_content : (content : List ℕ) → AreBytes content → fti_fault content ≡ None → IsSound (stated content)
 sound_content content bytes none =
-    sound_from_no_fault (stated content) (stated-widths content bytes) (none_hold (fault_when (not (length content == 10)) (FtiLength (length content))) (information_faults (stated content)) none).1
+    sound_from_no_fault (stated content) (stated-widths content bytes)
+    (none_hold (fault_when (not (length content == 10)) (FtiLength (length content))) (information_faults (stated content)) none).1
 
 -- a payload of four bytes and more is that of the values in it
-payload_again : (payload : List ℕ) → AreBytes payload → 4 ≤ length payload → payload ≡ big_bytes 3 (big_number 3 payload) ++ (big_bytes 1 (get_or payload 3 0) ++ drop 4 payload)
+payload_again : (payload : List ℕ) → AreBytes payload → 4 ≤ length payload
+    → payload ≡ big_bytes 3 (big_number 3 payload) ++ (big_bytes 1 (get_or payload 3 0) ++ drop 4 payload)
 payload_again payload bytes long =
     number_piece 0 3 payload (omega (arith, long)) bytes
     ∙ ap (λ (xs : List ℕ). big_bytes 3 (big_number 3 payload) ++ xs)

@@ -29,10 +29,21 @@ record Suit (tsi toi : ℕ) (w : ℕ × ℕ) : Type 0 where
 suit_of : (tsi toi a b : ℕ) → a ≤ 48 → a % 16 ≡ 0 → 16 ≤ b → b ≤ 112 → b % 16 ≡ 0 → a % 32 ≡ b % 32 → fits tsi toi (a, b) ≡ true → Suit tsi toi (a, b)
 suit_of tsi toi a b tsi_bits tsi_halves some toi_bits toi_halves same e =
     let both = and_parts (nat_lt tsi (2 ^ a)) (nat_lt toi (2 ^ b)) e in
-    record { tsi_bits = tsi_bits; tsi_halves = tsi_halves; toi_some = some; toi_bits = toi_bits; toi_halves = toi_halves; same_half = same; tsi_fits = ltb-true _ _ both.0; toi_fits = ltb-true _ _ both.1 }
+    record {
+      tsi_bits = tsi_bits;
+      tsi_halves = tsi_halves;
+      toi_some = some;
+      toi_bits = toi_bits;
+      toi_halves =
+          toi_halves;
+      same_half = same;
+      tsi_fits = ltb-true _ _ both.0;
+      toi_fits = ltb-true _ _ both.1;
+    }
 
 -- the first of several, each of which suits where it fits
-first_suits : (tsi toi : ℕ) (b : Bool) (w otherwise : ℕ × ℕ) (o : Option (ℕ × ℕ)) → (b ≡ true → Suit tsi toi w) → Suit tsi toi (unwrap_or o otherwise) → Suit tsi toi (unwrap_or (cond b (Some w) o) otherwise)
+first_suits : (tsi toi : ℕ) (b : Bool) (w otherwise : ℕ × ℕ) (o : Option (ℕ × ℕ)) → (b ≡ true → Suit tsi toi w)
+    → Suit tsi toi (unwrap_or o otherwise) → Suit tsi toi (unwrap_or (cond b (Some w) o) otherwise)
 first_suits tsi toi true w otherwise o here later = here refl
 first_suits tsi toi false w otherwise o here later = later
 
@@ -45,13 +56,33 @@ least_suits tsi toi tsi_fits toi_fits =
     (first_suits tsi toi (fits tsi toi (48, 48)) (48, 48) (48, 112) _ (suit_of tsi toi 48 48 (omega arith) refl (omega arith) (omega arith) refl refl)
     (first_suits tsi toi (fits tsi toi (48, 80)) (48, 80) (48, 112) _ (suit_of tsi toi 48 80 (omega arith) refl (omega arith) (omega arith) refl refl)
     (first_suits tsi toi (fits tsi toi (48, 112)) (48, 112) (48, 112) _ (suit_of tsi toi 48 112 (omega arith) refl (omega arith) (omega arith) refl refl)
-    (record { tsi_bits = omega arith; tsi_halves = refl; toi_some = omega arith; toi_bits = omega arith; toi_halves = refl; same_half = refl; tsi_fits = tsi_fits; toi_fits = toi_fits }))))))
+    (record {
+      tsi_bits = omega arith;
+      tsi_halves = refl;
+      toi_some = omega arith;
+      toi_bits =
+          omega arith;
+      toi_halves = refl;
+      same_half = refl;
+      tsi_fits = tsi_fits;
+      toi_fits = toi_fits;
+    }))))))
 
 -- the header of a packet is one
 pub header_suits : (p : SymbolPacket) → IsPacket p → IsHeader (header_of p)
 header_suits p is =
     let suit = least_suits p.tsi p.toi is.tsi_fits is.toi_fits in
-    record { tsi_bits = suit.tsi_bits; tsi_halves = suit.tsi_halves; toi_bits = suit.toi_bits; toi_halves = suit.toi_halves; same_half = suit.same_half; tsi = suit.tsi_fits; toi = suit.toi_fits; codepoint = omega arith }
+    record {
+      tsi_bits = suit.tsi_bits;
+      tsi_halves = suit.tsi_halves;
+      toi_bits = suit.toi_bits;
+      toi_halves =
+          suit.toi_halves;
+      same_half = suit.same_half;
+      tsi = suit.tsi_fits;
+      toi = suit.toi_fits;
+      codepoint = omega arith;
+    }
 
 -- ---- the datagram
 

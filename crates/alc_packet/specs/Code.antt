@@ -1,7 +1,10 @@
 -- A refusal's number in the table, and its detail.
 use Rattle.std.specs.Prelude.{ℕ}
 use Rattle.alc_packet.specs.declared.refusal.Refusal.{Refusal}
-use Rattle.alc_packet.specs.declared.refusal.Refusal.TheVariants.{Short, Version, LengthField, ExtensionZero, ExtensionLong, OtherScheme, NoToi, NoFti, FtiTwice, FtiLength, ZeroSymbol, ZeroBlock, MaxN, ShortObject, TooManyBlocks, NoPayloadId, BlockOut, SymbolOut, SymbolLength, FillNotZero}
+use Rattle.alc_packet.specs.declared.refusal.Refusal.TheVariants.{Short, Version, LengthField, ExtensionZero, ExtensionLong}
+use Rattle.alc_packet.specs.declared.refusal.Refusal.TheVariants.{OtherScheme, NoToi, NoFti, FtiTwice, FtiLength, ZeroSymbol}
+use Rattle.alc_packet.specs.declared.refusal.Refusal.TheVariants.{ZeroBlock, MaxN, ShortObject, TooManyBlocks, NoPayloadId}
+use Rattle.alc_packet.specs.declared.refusal.Refusal.TheVariants.{BlockOut, SymbolOut, SymbolLength, FillNotZero}
 
 abbrev pub code_of : Refusal → ℕ
 code_of Short = 1

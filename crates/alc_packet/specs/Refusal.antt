@@ -1,6 +1,7 @@
 -- Why a datagram is refused: the first line of the table that holds. Each line is a definition by itself, which gives
 -- its refusal where the line holds; their order stands once, in the lists.
-use Rattle.std.specs.Prelude.{◌≡◌, ℕ, ◌+◌, ◌<◌, ◌⊎◌, Bool, not, ◌&&◌, ◌==◌, nat_lt, nat_le, if◌then◌else◌, List, [], ◌∷◌, length, drop, slice_index, Option, Some, None, Result, option_map, position}
+use Rattle.std.specs.Prelude.{◌≡◌, ℕ, ◌+◌, ◌<◌, ◌⊎◌, Bool, not, ◌&&◌, ◌==◌, nat_lt, nat_le, if◌then◌else◌, List, [], ◌∷◌, length}
+use Rattle.std.specs.Prelude.{drop, slice_index, Option, Some, None, Result, option_map, position}
 use Rattle.byteorder.specs.Endian.{big_number}
 use Rattle.wire_bytes.specs.FirstFault.{fault_when, first_fault, unless_fault}
 use Rattle.lct_header.specs.declared.fault.HeaderFault.{HeaderFault}
@@ -12,7 +13,10 @@ use Rattle.oti_blocks.specs.Partition.{blocks, size_at, encoding_at, last_length
 use Rattle.oti_blocks.specs.Wire.{stated}
 use Rattle.oti_blocks.specs.Faults.{fti_fault}
 use Rattle.alc_packet.specs.declared.refusal.Refusal.{Refusal}
-use Rattle.alc_packet.specs.declared.refusal.Refusal.TheVariants.{Short, Version, LengthField, ExtensionZero, ExtensionLong, OtherScheme, NoToi, NoFti, FtiTwice, FtiLength, ZeroSymbol, ZeroBlock, MaxN, ShortObject, TooManyBlocks, NoPayloadId, BlockOut, SymbolOut, SymbolLength, FillNotZero}
+use Rattle.alc_packet.specs.declared.refusal.Refusal.TheVariants.{Short, Version, LengthField, ExtensionZero, ExtensionLong}
+use Rattle.alc_packet.specs.declared.refusal.Refusal.TheVariants.{OtherScheme, NoToi, NoFti, FtiTwice, FtiLength, ZeroSymbol}
+use Rattle.alc_packet.specs.declared.refusal.Refusal.TheVariants.{ZeroBlock, MaxN, ShortObject, TooManyBlocks, NoPayloadId}
+use Rattle.alc_packet.specs.declared.refusal.Refusal.TheVariants.{BlockOut, SymbolOut, SymbolLength, FillNotZero}
 use Rattle.alc_packet.specs.Packet.{SymbolPacket}
 use Rattle.alc_packet.specs.Pieces.{Pieces, ArePieces}
 use Rattle.alc_packet.specs.Datagram.{codepoint}

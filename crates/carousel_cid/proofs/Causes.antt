@@ -32,7 +32,8 @@ list_sound body good few = rw (good, le-ltb 4096 (count_in (texts_in body)) few)
 
 -- ---- a file
 
-pub location_fault : (fields : List Pair) (location : List ℕ) → location ≡ unwrap_or (value_of location_name fields) [] → file_fault fields ≡ fault_when (is_empty location) NoLocation
+pub location_fault : (fields : List Pair) (location : List ℕ) → location ≡ unwrap_or (value_of location_name fields) []
+    → file_fault fields ≡ fault_when (is_empty location) NoLocation
 unfolding file_fault
 location_fault fields location is = ap (λ b. fault_when b NoLocation) (by (value_of location_name fields) ∙ ap is_empty (sym is))
   where
@@ -40,11 +41,13 @@ location_fault fields location is = ap (λ b. fault_when b NoLocation) (by (valu
     by None = refl
     by (Some text) = refl
 
-pub no_location_fault : (fields : List Pair) (location : List ℕ) → location ≡ unwrap_or (value_of location_name fields) [] → 0 < length location → file_fault fields ≡ None
+pub no_location_fault : (fields : List Pair) (location : List ℕ)
+    → location ≡ unwrap_or (value_of location_name fields) [] → 0 < length location → file_fault fields ≡ None
 no_location_fault fields [] is some = absurd (omega arith)
 no_location_fault fields (b ∷ bs) is some = location_fault fields (b ∷ bs) is
 
-pub location_kind : (fields : List Pair) (location body : List ℕ) (kind : Option (List ℕ)) (r : Result Kind AllocError) → location ≡ unwrap_or (value_of location_name fields) [] → 0 < length location
+pub location_kind : (fields : List Pair) (location body : List ℕ) (kind : Option (List ℕ)) (r : Result Kind AllocError)
+    → location ≡ unwrap_or (value_of location_name fields) [] → 0 < length location
     → kind ≡ value_of type_name fields → IfOk r (λ file. file ≡ File location kind body) → IfOk r (λ k. k ≡ kind_unless (file_fault fields) (file_in fields body))
 location_kind fields location body kind (Ok file) is some typed made =
     rw (no_location_fault fields location is some) (made ∙ (λ i. File (is i) (typed i) body))
@@ -64,21 +67,25 @@ pub known_twice : (parts : Parts) → is_known_twice parts.fields ≡ true → c
 unfolding cause_of
 known_twice parts twice = rw twice refl
 
-pub length_differs : (parts : Parts) → is_known_twice parts.fields ≡ false → differs_from (length parts.body) (value_of length_name parts.fields) ≡ true → cause_of parts ≡ Some LengthDiffers
+pub length_differs : (parts : Parts) → is_known_twice parts.fields ≡ false
+    → differs_from (length parts.body) (value_of length_name parts.fields) ≡ true → cause_of parts ≡ Some LengthDiffers
 unfolding cause_of
 length_differs parts once differs = rw (once, differs) refl
 
-pub file_cause : (parts : Parts) → is_known_twice parts.fields ≡ false → differs_from (length parts.body) (value_of length_name parts.fields) ≡ false → parts.descriptor ≡ false
+pub file_cause : (parts : Parts) → is_known_twice parts.fields ≡ false
+    → differs_from (length parts.body) (value_of length_name parts.fields) ≡ false → parts.descriptor ≡ false
     → cause_of parts ≡ file_fault parts.fields
 unfolding cause_of
 file_cause parts once same file = rw (once, same, file) (last_fault (file_fault parts.fields))
 
-pub descriptor_cause : (parts : Parts) → is_known_twice parts.fields ≡ false → differs_from (length parts.body) (value_of length_name parts.fields) ≡ false → parts.descriptor ≡ true
+pub descriptor_cause : (parts : Parts) → is_known_twice parts.fields ≡ false
+    → differs_from (length parts.body) (value_of length_name parts.fields) ≡ false → parts.descriptor ≡ true
     → cause_of parts ≡ descriptor_fault parts.fields parts.body
 unfolding cause_of
 descriptor_cause parts once same descriptor = rw (once, same, descriptor) (last_fault (descriptor_fault parts.fields parts.body))
 
-pub file_kind : (parts : Parts) → parts.descriptor ≡ false → cause_of parts ≡ file_fault parts.fields → kind_of_parts parts ≡ kind_unless (file_fault parts.fields) (file_in parts.fields parts.body)
+pub file_kind : (parts : Parts) → parts.descriptor ≡ false → cause_of parts ≡ file_fault parts.fields
+    → kind_of_parts parts ≡ kind_unless (file_fault parts.fields) (file_in parts.fields parts.body)
 unfolding kind_of_parts
 file_kind parts file is = rw (is, file) refl
 

@@ -9,7 +9,8 @@ pub entry_one : (text : List ℕ) → position is_dash text ≡ None → entry_i
 unfolding entry_in
 entry_one text none = rw (any_without_place is_dash text (none_at is_dash text none)) refl
 
-pub entry_range : (text : List ℕ) (at : ℕ) → position is_dash text ≡ Some at → entry_in text ≡ range_entry (identifier_in (take at text)) (identifier_in (drop (at + 1) text))
+pub entry_range : (text : List ℕ) (at : ℕ) → position is_dash text ≡ Some at
+    → entry_in text ≡ range_entry (identifier_in (take at text)) (identifier_in (drop (at + 1) text))
 unfolding entry_in
 entry_range text at found =
     let place = found_at is_dash text at found in

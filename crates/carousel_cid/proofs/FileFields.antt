@@ -16,7 +16,13 @@ pub file_fields_length : (location : List ℕ) (kind : Option (List ℕ)) (size 
 file_fields_length location None size small =
     let digits = length-decimal-le 20 size (omega arith) (omega arith) small in
     let size_line = line_of (length_name, decimal size) in
-    omega (arith, length_line location_name location, length_line length_name (decimal size), length-append (line_of (location_name, location)) (size_line ++ []), length-append size_line [])
+    omega (
+      arith,
+      length_line location_name location,
+      length_line length_name (decimal size),
+      length-append (line_of (location_name, location)) (size_line ++ []),
+      length-append size_line [],
+    )
 file_fields_length location (Some kind) size small =
     let digits = length-decimal-le 20 size (omega arith) (omega arith) small in
     let size_line = line_of (length_name, decimal size) in

@@ -1,5 +1,6 @@
 -- Texts joined by commas.
-use Rattle.std.proofs.Common.{◌≡◌, ℕ, zero, suc, ◌+◌, ◌<◌, ◌^◌, false, List, [], ◌∷◌, ◌++◌, refl, sym, ap, ◌∙◌, append_assoc, length, length-append, get_or, take, map, arith}
+use Rattle.std.proofs.Common.{◌≡◌, ℕ, zero, suc, ◌+◌, ◌<◌, ◌^◌, false, List, [], ◌∷◌, ◌++◌, refl, sym, ap, ◌∙◌, append_assoc}
+use Rattle.std.proofs.Common.{length, length-append, get_or, take, map, arith}
 use Rattle.std.specs.List.{join_with_byte}
 use Rattle.std.specs.Fmt.{decimal}
 use Rattle.std.proofs.lemmas.Fmt.{decimal_is_IsNumeral_wide}
@@ -39,6 +40,7 @@ decimals_some (t ∷ ts) zero small = tt
 decimals_some (t ∷ ts) (suc i) small = (decimal_is_IsNumeral_wide t (omega arith)).0.0
 
 -- one identifier more
-pub list_text_more : (ts : List ℕ) (i : ℕ) → i < length ts → get_or ts 0 0 < 2 ^ 128 → list_text (take (i + 1) ts) ≡ with_text (list_text (take i ts)) (decimal (get_or ts i 0))
+pub list_text_more : (ts : List ℕ) (i : ℕ) → i < length ts → get_or ts 0 0 < 2 ^ 128
+    → list_text (take (i + 1) ts) ≡ with_text (list_text (take i ts)) (decimal (get_or ts i 0))
 list_text_more ts i less small =
     ap (join_with_byte comma) (map_more decimal ts i 0 less) ∙ with_text_more (map decimal (take i ts)) (decimal (get_or ts i 0)) (decimals_some ts i small)

@@ -64,7 +64,8 @@ kept_step : (kept ts : List ℕ) (t : ℕ) → ((k : List ℕ) → added_all k t
     → added_all (added kept t) ts ≡ kept ++ filter (is_new kept) (t ∷ filter (differs t) (first_places ts))
 kept_step kept ts t later = by (stands t kept) refl
   where
-    by : (b : Bool) → stands t kept ≡ b → added_all (cond b kept (kept ++ t ∷ [])) ts ≡ kept ++ cond (not b) (t ∷ filter (is_new kept) (filter (differs t) (first_places ts))) (filter (is_new kept) (filter (differs t) (first_places ts)))
+    by : (b : Bool) → stands t kept ≡ b → added_all (cond b kept (kept ++ t ∷ [])) ts ≡ kept
+        ++ cond (not b) (t ∷ filter (is_new kept) (filter (differs t) (first_places ts))) (filter (is_new kept) (filter (differs t) (first_places ts)))
     by true there = later kept ∙ ap (λ (ys : List ℕ). kept ++ ys) (sym (filter_both (is_new kept) (differs t) (is_new kept) (old_out kept t there) (first_places ts)))
     by false gone =
         later (kept ++ t ∷ []) ∙ append_assoc kept (t ∷ []) (filter (is_new (kept ++ t ∷ [])) (first_places ts))
@@ -103,7 +104,8 @@ different_left p [] all = refl
 different_left p (t ∷ ts) all = by (p t) (and_parts (not (stands t ts)) (are_different ts) all)
     (different_left p ts (and_parts (not (stands t ts)) (are_different ts) all).1)
   where
-    by : (b : Bool) → (not (stands t ts) ≡ true) × (are_different ts ≡ true) → are_different (filter p ts) ≡ true → are_different (cond b (t ∷ filter p ts) (filter p ts)) ≡ true
+    by : (b : Bool) → (not (stands t ts) ≡ true) × (are_different ts ≡ true)
+        → are_different (filter p ts) ≡ true → are_different (cond b (t ∷ filter p ts) (filter p ts)) ≡ true
     by true both rest = rw (none_more p t ts (not-true (stands t ts) both.0), rest) refl
     by false both rest = rest
 

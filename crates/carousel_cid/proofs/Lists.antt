@@ -1,5 +1,6 @@
 -- A body and the list that it is: texts joined by commas, and an end of line.
-use Rattle.std.proofs.Common.{◌≡◌, ℕ, zero, suc, ◌<◌, ◌==◌, Bool, true, false, ◌||◌, cond, List, [], ◌∷◌, ◌++◌, None, refl, sym, ap, ◌∙◌, inl, inr, arith, length, All, get_or, append-nil, reverse}
+use Rattle.std.proofs.Common.{◌≡◌, ℕ, zero, suc, ◌<◌, ◌==◌, Bool, true, false, ◌||◌, cond, List, [], ◌∷◌, ◌++◌, None, refl, sym}
+use Rattle.std.proofs.Common.{ap, ◌∙◌, inl, inr, arith, length, All, get_or, append-nil, reverse}
 use Rattle.std.specs.List.{list_all, slice_split, join_with_byte}
 use Rattle.std.proofs.lemmas.Bool.{and_parts, eqb-true}
 use Rattle.std.proofs.lemmas.Bool.Decides.{nat_tests}
@@ -72,7 +73,11 @@ joined_bytes (t ∷ ts) [] spelled = absurd spelled
 joined_bytes (t ∷ []) (e ∷ es) spelled = entry_to_list t (entry_bytes t e spelled.0).0
 joined_bytes (t ∷ u ∷ ts) (e ∷ []) spelled = absurd spelled.1
 joined_bytes (t ∷ u ∷ ts) (e ∷ f ∷ es) spelled =
-    rw (list_all-append is_list_byte t (comma ∷ join_with_byte comma (u ∷ ts)), entry_to_list t (entry_bytes t e spelled.0).0, joined_bytes (u ∷ ts) (f ∷ es) spelled.1) refl
+    rw (
+      list_all-append is_list_byte t (comma ∷ join_with_byte comma (u ∷ ts)),
+      entry_to_list t (entry_bytes t e spelled.0).0,
+      joined_bytes (u ∷ ts) (f ∷ es) spelled.1,
+    ) refl
 
 -- ---- what a list is read as
 
@@ -88,7 +93,8 @@ without_end : (list ending : List ℕ) → list_all is_list_byte list ≡ true �
 without_end list ending all ends =
     let back = all_reversed is_list_byte list all in
     elim ends [
-      | inl none ↦ ap (λ (e : List ℕ). without_line_end (list ++ e)) none ∙ ap without_line_end (append-nil list) ∙ ap reverse (no_end (reverse list) back) ∙ reverse-reverse list
+      | inl none ↦ ap (λ (e : List ℕ). without_line_end (list ++ e)) none
+          ∙ ap without_line_end (append-nil list) ∙ ap reverse (no_end (reverse list) back) ∙ reverse-reverse list
       | inr some ↦ elim some [
         | inl feed ↦
             ap (λ (e : List ℕ). without_line_end (list ++ e)) feed ∙ ap (λ (bs : List ℕ). reverse (after_line_end bs)) (reverse-append list (0x0A ∷ []))

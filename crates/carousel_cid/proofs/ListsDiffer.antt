@@ -12,9 +12,11 @@ use Rattle.carousel_cid.specs.Inner.Listing.{texts_in, identifiers_in}
 use Rattle.carousel_cid.specs.Kinds.{kind_of_object, kind_of_parts, kind_read, kind_unless, usable}
 use Rattle.carousel_cid.proofs.Kept.{first_places_differ}
 
-by_usable : (descriptor : Bool) (fields : List Pair) (body : List ℕ) (number : ℕ) (listed : List ℕ) → usable descriptor fields body ≡ Descriptor number listed → are_different listed ≡ true
+by_usable : (descriptor : Bool) (fields : List Pair) (body : List ℕ) (number : ℕ) (listed : List ℕ)
+    → usable descriptor fields body ≡ Descriptor number listed → are_different listed ≡ true
 by_usable false fields body number listed e = absurd (cc)
-by_usable true fields body number listed e = let same : first_places (identifiers_in (texts_in body)) ≡ listed = cc in subst (λ ts. are_different ts ≡ true) same (first_places_differ (identifiers_in (texts_in body)))
+by_usable true fields body number listed e = let same : first_places (identifiers_in (texts_in body)) ≡ listed = cc in
+    subst (λ ts. are_different ts ≡ true) same (first_places_differ (identifiers_in (texts_in body)))
 
 by_cause : (cause : Option Cause) (kind : Kind) (number : ℕ) (listed : List ℕ) → kind_unless cause kind ≡ Descriptor number listed → kind ≡ Descriptor number listed
 by_cause None kind number listed e = e
@@ -22,7 +24,8 @@ by_cause (Some cause) kind number listed e = absurd (cc)
 
 by_reading : (read : Result Parts CompoundFault) (number : ℕ) (listed : List ℕ) → kind_read read ≡ Descriptor number listed → are_different listed ≡ true
 unfolding kind_of_parts
-by_reading (Ok parts) number listed e = by_usable parts.descriptor parts.fields parts.body number listed (by_cause (cause_of parts) (usable parts.descriptor parts.fields parts.body) number listed e)
+by_reading (Ok parts) number listed e = by_usable parts.descriptor parts.fields parts.body number
+    listed (by_cause (cause_of parts) (usable parts.descriptor parts.fields parts.body) number listed e)
 by_reading (Err fault) number listed e = absurd (cc)
 
 -- what an object that is a descriptor lists differs

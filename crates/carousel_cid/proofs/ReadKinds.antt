@@ -1,5 +1,6 @@
 -- Files and descriptors are read exactly where the definitions say so.
-use Rattle.std.proofs.Common.{◌≡◌, ◌≢◌, ℕ, ◌≤◌, ◌<◌, ◌^◌, Bool, true, false, not, List, [], ◌∷◌, Option, Some, None, Ok, Err, Result, refl, sym, ap, subst, ◌∙◌, arith, length}
+use Rattle.std.proofs.Common.{◌≡◌, ◌≢◌, ℕ, ◌≤◌, ◌<◌, ◌^◌, Bool, true, false, not, List, [], ◌∷◌, Option, Some, None, Ok, Err}
+use Rattle.std.proofs.Common.{Result, refl, sym, ap, subst, ◌∙◌, arith, length}
 use Rattle.std.specs.declared.alloc.AllocError.{AllocError}
 use Rattle.std.specs.Prelude.{IfOk, ◌↔◌, unwrap_or, is_none, option_to_list, option_map}
 use Rattle.std.proofs.lemmas.Bool.{le-ltb, ltb-false, or_parts, not-false}
@@ -50,13 +51,25 @@ known_from fields once =
     let b = or_parts (twice type_name) _ a.1 in
     let c = or_parts (twice length_name) _ b.1 in
     let d = or_parts (twice number_name) _ c.1 in
-    let e = or_parts (twice complete_name) false d.1 in
-    (at_most_one fields location_name a.0, (at_most_one fields type_name b.0, (at_most_one fields length_name c.0, (at_most_one fields number_name d.0, (at_most_one fields complete_name e.0, tt)))))
+    let e = or_parts (twice complete_name) false d.1 in (
+      at_most_one fields location_name a.0,
+      (
+        at_most_one fields type_name
+            b.0,
+        (at_most_one fields length_name c.0, (at_most_one fields number_name d.0, (at_most_one fields complete_name e.0, tt))),
+      ),
+    )
 
 known_to : (fields : List Pair) → AreKnownOnce fields → is_known_twice fields ≡ false
 unfolding is_known_twice
 known_to fields once =
-    rw (not_twice fields location_name once.0, not_twice fields type_name once.1.0, not_twice fields length_name once.1.1.0, not_twice fields number_name once.1.1.1.0, not_twice fields complete_name once.1.1.1.1.0) refl
+    rw (
+      not_twice fields location_name once.0,
+      not_twice fields type_name once.1.0,
+      not_twice fields length_name once.1.1.0,
+      not_twice fields number_name once.1.1.1.0,
+      not_twice fields complete_name once.1.1.1.1.0,
+    ) refl
 
 -- ---- one value
 
@@ -90,11 +103,13 @@ value_option name fields (Some v) is = ap only_one is
 
 -- ---- the stated length
 
-stated_from : (fields : List Pair) (size : ℕ) → differs_from size (value_of length_name fields) ≡ false → (text : List ℕ) → values_of length_name fields ≡ text ∷ [] → IsNumber text size
+stated_from : (fields : List Pair) (size : ℕ) → differs_from size (value_of length_name fields) ≡ false
+    → (text : List ℕ) → values_of length_name fields ≡ text ∷ [] → IsNumber text size
 stated_from fields size same text is =
     writes_from text size (not-false (writes_number text size) (ap (differs_from size) (sym (value_to length_name fields text is)) ∙ same))
 
-stated_to : (fields : List Pair) (size : ℕ) → ((text : List ℕ) → values_of length_name fields ≡ text ∷ [] → IsNumber text size) → differs_from size (value_of length_name fields) ≡ false
+stated_to : (fields : List Pair) (size : ℕ) → ((text : List ℕ) → values_of length_name fields ≡ text ∷ [] → IsNumber text size)
+    → differs_from size (value_of length_name fields) ≡ false
 stated_to fields size stated = by (value_of length_name fields) refl
   where
     by : (o : Option (List ℕ)) → value_of length_name fields ≡ o → differs_from size o ≡ false
@@ -126,11 +141,13 @@ empty_not (b ∷ bs) some = refl
 
 -- ---- a file
 
-located : (fields : List Pair) (location : List ℕ) → file_fault fields ≡ None → unwrap_or (value_of location_name fields) [] ≡ location → (values_of location_name fields ≡ location ∷ []) × (location ≢ [])
+located : (fields : List Pair) (location : List ℕ) → file_fault fields ≡ None
+    → unwrap_or (value_of location_name fields) [] ≡ location → (values_of location_name fields ≡ location ∷ []) × (location ≢ [])
 unfolding file_fault
 located fields location none is = by (value_of location_name fields) refl (cause_fails _ _ none) is
   where
-    by : (o : Option (List ℕ)) → value_of location_name fields ≡ o → is_nothing o ≡ false → unwrap_or o [] ≡ location → (values_of location_name fields ≡ location ∷ []) × (location ≢ [])
+    by : (o : Option (List ℕ)) → value_of location_name fields ≡ o → is_nothing o ≡ false
+        → unwrap_or o [] ≡ location → (values_of location_name fields ≡ location ∷ []) × (location ≢ [])
     by None e some is = absurd (let other : true ≡ false = some in cc)
     by (Some text) e some is = (
       value_is location_name fields location (e ∙ ap (λ t. Some t) is),
@@ -144,7 +161,8 @@ file_from object parts location kind body spells is =
     let read = usable_from (cause_of parts) (usable parts.descriptor parts.fields parts.body) (File location kind body) is (λ cause same. cc) in
     by parts.descriptor refl (sound_from parts read.0) read.0 read.1
   where
-    by : (d : Bool) → parts.descriptor ≡ d → Sound parts → cause_of parts ≡ None → usable d parts.fields parts.body ≡ File location kind body → ReadsFile object location kind body
+    by : (d : Bool) → parts.descriptor ≡ d → Sound parts → cause_of parts ≡ None
+        → usable d parts.fields parts.body ≡ File location kind body → ReadsFile object location kind body
     by true sort sound none made = absurd cc
     by false sort sound none made =
         let body_is : parts.body ≡ body = cc in
@@ -163,7 +181,8 @@ file_from object parts location kind body spells is =
           typed = values_from type_name parts.fields once.1.0 ∙ ap option_to_list kind_is;
         }
 
-pub reads_file : (object location : List ℕ) (kind : Option (List ℕ)) (body : List ℕ) → AreBytes object → kind_of_object object ≡ File location kind body → ReadsFile object location kind body
+pub reads_file : (object location : List ℕ) (kind : Option (List ℕ)) (body : List ℕ) → AreBytes object
+    → kind_of_object object ≡ File location kind body → ReadsFile object location kind body
 unfolding kind_of_object
 reads_file object location kind body bytes is = by (reading object) refl is
   where
@@ -171,7 +190,8 @@ reads_file object location kind body bytes is = by (reading object) refl is
     by (Ok parts) read e = file_from object parts location kind body (spelled-reading object parts bytes read) e
     by (Err fault) read e = absurd cc
 
-pub file_read : (object location : List ℕ) (kind : Option (List ℕ)) (body : List ℕ) → ReadsFile object location kind body → kind_of_object object ≡ File location kind body
+pub file_read : (object location : List ℕ) (kind : Option (List ℕ)) (body : List ℕ)
+    → ReadsFile object location kind body → kind_of_object object ≡ File location kind body
 unfolding kind_of_object file_fault
 file_read object location kind body f =
     let parts : Parts = record { descriptor = false; fields = f.fields; body = body } in
@@ -186,7 +206,8 @@ file_read object location kind body f =
 
 -- ---- a descriptor
 
-number_facts : (fields : List Pair) (number : ℕ) → is_none (number_in (value_of number_name fields)) ≡ false → unwrap_or (number_in (value_of number_name fields)) 0 ≡ number
+number_facts : (fields : List Pair) (number : ℕ) → is_none (number_in (value_of number_name fields)) ≡ false
+    → unwrap_or (number_in (value_of number_name fields)) 0 ≡ number
     → (text : List ℕ) × (values_of number_name fields ≡ text ∷ []) × IsNumber text number × (number < 2 ^ 32)
 number_facts fields number some is = by (value_of number_name fields) refl some is
   where
@@ -210,7 +231,8 @@ list_from body none =
     let second = none_hold _ _ first.1 in
     (no_place (bad_place 0 (texts_in body)) _ first.0, ltb-false 4096 (count_in (texts_in body)) (cause_fails _ _ second.0))
 
-faults_from : (fields : List Pair) (body : List ℕ) → descriptor_fault fields body ≡ None → (is_none (number_in (value_of number_name fields)) ≡ false) × (list_fault body ≡ None)
+faults_from : (fields : List Pair) (body : List ℕ) → descriptor_fault fields body ≡ None
+    → (is_none (number_in (value_of number_name fields)) ≡ false) × (list_fault body ≡ None)
 unfolding descriptor_fault
 faults_from fields body none =
     let later = fault_when (is_none (number_in (value_of number_name fields))) BadNumber ∷ list_fault body ∷ [] in
@@ -226,7 +248,8 @@ descriptor_from object parts number listed spells is =
     let read = usable_from (cause_of parts) (usable parts.descriptor parts.fields parts.body) (Descriptor number listed) is (λ cause same. cc) in
     by parts.descriptor refl (sound_from parts read.0) read.0 read.1
   where
-    by : (d : Bool) → parts.descriptor ≡ d → Sound parts → cause_of parts ≡ None → usable d parts.fields parts.body ≡ Descriptor number listed → ReadsDescriptor object number listed
+    by : (d : Bool) → parts.descriptor ≡ d → Sound parts → cause_of parts ≡ None
+        → usable d parts.fields parts.body ≡ Descriptor number listed → ReadsDescriptor object number listed
     by false sort sound none made = absurd cc
     by true sort sound none made =
         let number_is : unwrap_or (number_in (value_of number_name parts.fields)) 0 ≡ number = cc in
@@ -236,7 +259,8 @@ descriptor_from object parts number listed spells is =
         let good = list_from parts.body faults.1 in
         let list = spells_list parts.body good.0 in
         let count : count_of list.0 ≡ count_in (texts_in parts.body) = sym (entries_count list.1.texts list.0 list.1.spelled) ∙ ap count_in list.2 in
-        let tois : identifiers_of list.0 ≡ identifiers_in (texts_in parts.body) = sym (entries_identifiers list.1.texts list.0 list.1.spelled) ∙ ap identifiers_in list.2 in
+        let tois : identifiers_of list.0 ≡ identifiers_in (texts_in parts.body) =
+        sym (entries_identifiers list.1.texts list.0 list.1.spelled) ∙ ap identifiers_in list.2 in
         record {
           fields = parts.fields;
           body = parts.body;
@@ -253,7 +277,8 @@ descriptor_from object parts number listed spells is =
           in_order = sym listed_is ∙ ap first_places (sym tois);
         }
 
-pub reads_descriptor : (object : List ℕ) (number : ℕ) (listed : List ℕ) → AreBytes object → kind_of_object object ≡ Descriptor number listed → ReadsDescriptor object number listed
+pub reads_descriptor : (object : List ℕ) (number : ℕ) (listed : List ℕ) → AreBytes object
+    → kind_of_object object ≡ Descriptor number listed → ReadsDescriptor object number listed
 unfolding kind_of_object
 reads_descriptor object number listed bytes is = by (reading object) refl is
   where

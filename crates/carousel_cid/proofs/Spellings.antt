@@ -1,5 +1,6 @@
 -- Which texts spell which entries, and the list that they make.
-use Rattle.std.proofs.Common.{◌≡◌, ℕ, ◌+◌, ◌≤◌, ◌<◌, ◌^◌, Bool, true, false, ◌&&◌, ◌||◌, cond, List, [], ◌∷◌, ◌++◌, Option, Some, None, refl, sym, ap, subst, ◌∙◌, inl, inr, arith, length, get_or, leb, length-append}
+use Rattle.std.proofs.Common.{◌≡◌, ℕ, ◌+◌, ◌≤◌, ◌<◌, ◌^◌, Bool, true, false, ◌&&◌, ◌||◌, cond, List, [], ◌∷◌, ◌++◌, Option, Some}
+use Rattle.std.proofs.Common.{None, refl, sym, ap, subst, ◌∙◌, inl, inr, arith, length, get_or, leb, length-append}
 use Rattle.std.specs.Char.{is_ascii_digit}
 use Rattle.std.specs.List.{list_any, list_all, position_or_len, before_first, after_first, range_with_len}
 use Rattle.std.specs.Str.{all_ascii_digits}
@@ -68,7 +69,8 @@ dash_at : (text : List ℕ) → list_any is_dash text ≡ true → text ≡ befo
 dash_at text there =
     let least = place_from_any is_dash text there in
     let at = passes_at_first is_dash text 0 least in
-    split_at_first is_dash text 0 least ∙ ap (λ b. before_first is_dash text ++ b ∷ after_first is_dash text) (eqb-true (get_or text (position_or_len is_dash text) 0) dash at)
+    split_at_first is_dash text 0 least ∙ ap (λ b. before_first is_dash text ++ b ∷ after_first is_dash text)
+    (eqb-true (get_or text (position_or_len is_dash text) 0) dash at)
 
 -- ---- entries
 
@@ -84,7 +86,8 @@ one_from text (Some toi) entry is read =
     let same : record { first = toi; last = toi } ≡ entry = cc in
     record { one = subst (λ (e : Entry). IsIdentifier text e.first) same (identifier_from text toi is); same = subst (λ (e : Entry). e.last ≡ e.first) same refl }
 
-range_from : (text front back : List ℕ) (o p : Option ℕ) (entry : Entry) → text ≡ front ++ dash ∷ back → identifier_in front ≡ o → identifier_in back ≡ p → range_entry o p ≡ Some entry → SpellsRange text entry
+range_from : (text front back : List ℕ) (o p : Option ℕ) (entry : Entry) → text ≡ front ++ dash ∷ back
+    → identifier_in front ≡ o → identifier_in back ≡ p → range_entry o p ≡ Some entry → SpellsRange text entry
 range_from text front back None p entry joined first last read = absurd (let other : None ≡ Some entry = read in cc)
 range_from text front back (Some a) None entry joined first last read = absurd (let other : None ≡ Some entry = read in cc)
 range_from text front back (Some a) (Some b) entry joined first last read = by (leb a b) refl read
@@ -106,7 +109,8 @@ pub entry_from : (text : List ℕ) (entry : Entry) → entry_in text ≡ Some en
 unfolding entry_in
 entry_from text entry read = by (list_any is_dash text) refl read
   where
-    by : (t : Bool) → list_any is_dash text ≡ t → cond t (range_entry (identifier_in (before_first is_dash text)) (identifier_in (after_first is_dash text))) (one_entry (identifier_in text)) ≡ Some entry → SpellsEntry text entry
+    by : (t : Bool) → list_any is_dash text ≡ t → cond t (range_entry (identifier_in (before_first is_dash text))
+        (identifier_in (after_first is_dash text))) (one_entry (identifier_in text)) ≡ Some entry → SpellsEntry text entry
     by true there e = inr (range_from text (before_first is_dash text) (after_first is_dash text) _ _ entry (dash_at text there) refl refl e)
     by false none e = inl (one_from text (identifier_in text) entry refl e)
 
@@ -119,8 +123,10 @@ entry_to text entry spells = elim spells [
   | inr s ↦
       let digits = no_dash s.front (digits_of_number s.front entry.first s.first.number) in
       let there : list_any is_dash text ≡ true = ap (list_any is_dash) s.joined ∙ any_dash s.front s.back in
-      let first : identifier_in (before_first is_dash text) ≡ Some entry.first = ap (λ (ys : List ℕ). identifier_in (before_first is_dash ys)) s.joined ∙ ap identifier_in (before_dash s.front s.back digits) ∙ identifier_to s.front entry.first s.first in
-      let last : identifier_in (after_first is_dash text) ≡ Some entry.last = ap (λ (ys : List ℕ). identifier_in (after_first is_dash ys)) s.joined ∙ ap identifier_in (after_dash s.front s.back digits) ∙ identifier_to s.back entry.last s.last in
+      let first : identifier_in (before_first is_dash text) ≡ Some entry.first = ap (λ (ys : List ℕ). identifier_in (before_first is_dash ys)) s.joined
+      ∙ ap identifier_in (before_dash s.front s.back digits) ∙ identifier_to s.front entry.first s.first in
+      let last : identifier_in (after_first is_dash text) ≡ Some entry.last = ap (λ (ys : List ℕ). identifier_in (after_first is_dash ys)) s.joined
+      ∙ ap identifier_in (after_dash s.front s.back digits) ∙ identifier_to s.back entry.last s.last in
       rw (there, first, last, le-leb entry.first entry.last s.order) refl
 ]
 
@@ -167,7 +173,8 @@ entry_bytes text entry spells = elim spells [
   | inl s ↦ (digits_in_entry text (digits_of_number text entry.first s.one.number), s.one.number.digits.0)
   | inr s ↦ (
     ap (list_all is_entry_byte) s.joined ∙ list_all-append is_entry_byte s.front (dash ∷ s.back)
-        ∙ (λ i. digits_in_entry s.front (digits_of_number s.front entry.first s.first.number) i && digits_in_entry s.back (digits_of_number s.back entry.last s.last.number) i),
+        ∙ (λ i. digits_in_entry s.front (digits_of_number s.front entry.first s.first.number)
+        i && digits_in_entry s.back (digits_of_number s.back entry.last s.last.number) i),
     omega (arith, ap length s.joined, length-append s.front (dash ∷ s.back)),
   )
 ]

@@ -49,7 +49,8 @@ last_text list at start none =
     let nothing = any_without_place is_comma (drop at list) (none_at is_comma (drop at list) none) in
     let all = All-from_get_or (λ b. is_comma b ≡ false) (drop at list) 0 (none_passes is_comma (drop at list) 0 nothing) in
     let past : length list < at + length (drop at list) + 1 = omega (arith, length-drop at list) in
-    from_within at list start ∙ slice_split_none is_comma (drop at list) all ∙ ap (λ (ts : List (List ℕ)). drop at list ∷ ts) (sym (from_past (at + length (drop at list) + 1) list past))
+    from_within at list start ∙ slice_split_none is_comma (drop at list) all
+    ∙ ap (λ (ts : List (List ℕ)). drop at list ∷ ts) (sym (from_past (at + length (drop at list) + 1) list past))
 
 -- ---- the whole list
 
@@ -69,7 +70,8 @@ pub bad_at : (at : ℕ) (texts rest : List (List ℕ)) (text : List ℕ) → tex
 bad_at at texts rest text first none = rw (first, none) refl
 
 -- the identifiers of an entry, added to those before it
-pub walk_on : (old new text : List ℕ) (entry : Option Entry) (texts rest : List (List ℕ)) → texts ≡ text ∷ rest → entry ≡ entry_in text → new ≡ added_all old (range_in entry)
+pub walk_on : (old new text : List ℕ) (entry : Option Entry) (texts rest : List (List ℕ))
+    → texts ≡ text ∷ rest → entry ≡ entry_in text → new ≡ added_all old (range_in entry)
     → added_all new (identifiers_in rest) ≡ added_all old (identifiers_in texts)
 walk_on old new text entry texts rest first is adds =
     ap (λ (ts : List ℕ). added_all ts (identifiers_in rest)) (adds ∙ ap (λ e. added_all old (range_in e)) is)

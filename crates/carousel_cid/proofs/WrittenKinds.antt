@@ -1,5 +1,6 @@
 -- What is written is a file or a descriptor, with these parts.
-use Rattle.std.proofs.Common.{◌≡◌, ℕ, ◌+◌, ◌-◌, ◌≤◌, ◌<◌, ◌^◌, true, false, List, [], ◌∷◌, ◌++◌, Option, Some, None, Result, Ok, Err, Bor, refl, sym, ap, subst, ◌∙◌, inl, arith, length, map, append-nil}
+use Rattle.std.proofs.Common.{◌≡◌, ℕ, ◌+◌, ◌-◌, ◌≤◌, ◌<◌, ◌^◌, true, false, List, [], ◌∷◌, ◌++◌, Option, Some, None, Result, Ok}
+use Rattle.std.proofs.Common.{Err, Bor, refl, sym, ap, subst, ◌∙◌, inl, arith, length, map, append-nil}
 use Rattle.std.specs.Prelude.{unwrap_or, IfOk}
 use Rattle.std.specs.List.{AllByRecursion, range_with_len}
 use Rattle.std.specs.Option.{ForSome, option_copied}
@@ -35,12 +36,14 @@ file_pairs location None size small is kind_is =
 file_pairs location (Some kind) size small is kind_is =
     (record { name = refl; value = is }, (record { name = refl; value = kind_is kind refl }, (record { name = refl; value = decimal_is_value size small }, tt)))
 
-pub reads_written_file : (location : List ℕ) (kind : Option (List ℕ)) (body : List ℕ) → 0 < length location → IsValue location → ForSome kind IsValue → length body < 2 ^ 64
+pub reads_written_file : (location : List ℕ) (kind : Option (List ℕ)) (body : List ℕ)
+    → 0 < length location → IsValue location → ForSome kind IsValue → length body < 2 ^ 64
     → length location + length (unwrap_or kind []) ≤ 16777216 → ReadsFile (file_bytes location kind body) location kind body
 unfolding file_bytes
 reads_written_file location None body some is kind_is small texts = record {
   fields = file_fields location None (length body);
-  spells = SpellsObject-written false (file_fields location None (length body)) body (file_pairs location None (length body) small is kind_is) (omega (arith, file_fields_length location None (length body) small));
+  spells = SpellsObject-written false (file_fields location None (length body)) body (file_pairs location None (length body) small is kind_is)
+      (omega (arith, file_fields_length location None (length body) small));
   once = (omega arith, (omega arith, (omega arith, (omega arith, (omega arith, tt)))));
   stated = λ text there. subst (λ (t : List ℕ). IsNumber t (length body)) (one_value there) (decimal_is_number (length body) small);
   located = refl;
@@ -49,7 +52,8 @@ reads_written_file location None body some is kind_is small texts = record {
 }
 reads_written_file location (Some kind) body some is kind_is small texts = record {
   fields = file_fields location (Some kind) (length body);
-  spells = SpellsObject-written false (file_fields location (Some kind) (length body)) body (file_pairs location (Some kind) (length body) small is kind_is) (omega (arith, file_fields_length location (Some kind) (length body) small));
+  spells = SpellsObject-written false (file_fields location (Some kind) (length body)) body (file_pairs location (Some kind) (length body) small is kind_is)
+      (omega (arith, file_fields_length location (Some kind) (length body) small));
   once = (omega arith, (omega arith, (omega arith, (omega arith, (omega arith, tt)))));
   stated = λ text there. subst (λ (t : List ℕ). IsNumber t (length body)) (one_value there) (decimal_is_number (length body) small);
   located = refl;
@@ -81,7 +85,8 @@ identifiers_alone [] = refl
 identifiers_alone (t ∷ ts) =
     ap (λ n. range_with_len t n ++ identifiers_of (map alone ts)) (one_each t) ∙ ap (λ (us : List ℕ). t ∷ us) (identifiers_alone ts)
 
-pub reads_written_descriptor : (number : ℕ) (listed : List ℕ) → number < 2 ^ 32 → length listed ≤ 4096 → are_different listed ≡ true → AllByRecursion (λ toi. toi < 2 ^ 112) listed
+pub reads_written_descriptor : (number : ℕ) (listed : List ℕ) → number < 2 ^ 32
+    → length listed ≤ 4096 → are_different listed ≡ true → AllByRecursion (λ toi. toi < 2 ^ 112) listed
     → ReadsDescriptor (descriptor_bytes number listed) number listed
 unfolding descriptor_bytes
 reads_written_descriptor number listed small few different fits =
@@ -117,6 +122,7 @@ type_copied None is = λ k same. absurd cc
 type_copied (Some k) is = λ text same. subst IsValue (let e : k.now ≡ text = cc in e) (is k refl)
 
 -- what holds of bytes holds of an answer that has them
-pub at_answer : {V E : Type 0} (items : V → List ℕ) (P : List ℕ → Type 0) (r : Result V E) (bytes : List ℕ) → IfOk r (λ v. items v ≡ bytes) → P bytes → IfOk r (λ v. P (items v))
+pub at_answer : {V E : Type 0} (items : V → List ℕ) (P : List ℕ → Type 0) (r : Result V E) (bytes : List ℕ)
+    → IfOk r (λ v. items v ≡ bytes) → P bytes → IfOk r (λ v. P (items v))
 at_answer items P (Ok v) bytes is holds = subst P (sym is) holds
 at_answer items P (Err e) bytes is holds = tt

@@ -1,5 +1,6 @@
 -- What reading finds in a layout.
-use Rattle.std.proofs.Common.{◌≡◌, ℕ, suc, ◌+◌, ◌-◌, ◌/◌, ◌%◌, ◌^◌, ◌<◌, ◌≤◌, Bool, true, false, cond, eqb, List, [], ◌∷◌, ◌++◌, length, take, drop, replicate, Result, Ok, refl, sym, ap, ◌∙◌, append_assoc, arith}
+use Rattle.std.proofs.Common.{◌≡◌, ℕ, suc, ◌+◌, ◌-◌, ◌/◌, ◌%◌, ◌^◌, ◌<◌, ◌≤◌, Bool, true, false, cond, eqb, List, [], ◌∷◌, ◌++◌}
+use Rattle.std.proofs.Common.{length, take, drop, replicate, Result, Ok, refl, sym, ap, ◌∙◌, append_assoc, arith}
 use Rattle.wire_bytes.specs.Bytes.{are_zero}
 use Rattle.wire_bytes.proofs.Public.{replicated_zeros}
 use Rattle.std.proofs.lemmas.List.{take_at, drop_at, length-append, length-replicate, append-nil}
@@ -11,7 +12,8 @@ use Rattle.meta_text.specs.Reading as fields
 use Rattle.compound_object.specs.declared.fault.CompoundFault.{CompoundFault}
 use Rattle.compound_object.specs.Checksum.{checksum}
 use Rattle.compound_object.specs.Object.{rounded, header_length_of, layout, summed, SpellsObject, object_bytes}
-use Rattle.compound_object.specs.Reading.{header_length, body_start, metadata_in, filling_in, body_in, is_descriptor, covered, without_sum, stated_sum, found_sum, Parts, with_fields, reading}
+use Rattle.compound_object.specs.Reading.{header_length, body_start, metadata_in, filling_in, body_in, is_descriptor, covered}
+use Rattle.compound_object.specs.Reading.{without_sum, stated_sum, found_sum, Parts, with_fields, reading}
 use Rattle.compound_object.proofs.Refusals.{Passes, not_refused}
 use Rattle.compound_object.proofs.Sayings.{reading_sound}
 
@@ -22,7 +24,8 @@ tail metadata body = metadata ++ replicate (rounded (header_length_of metadata) 
 rounded_le : (n : ℕ) → n ≤ rounded n
 rounded_le n = omega arith
 
-pub header_length-layout : (first sum : ℕ) (metadata body : List ℕ) → header_length_of metadata < 2 ^ 32 → header_length (layout first sum metadata body) ≡ header_length_of metadata
+pub header_length-layout : (first sum : ℕ) (metadata body : List ℕ) → header_length_of metadata < 2 ^ 32
+    → header_length (layout first sum metadata body) ≡ header_length_of metadata
 unfolding header_length
 header_length-layout first sum metadata body fits = big_number-reads_back 4 (header_length_of metadata) (tail metadata body) fits
 
@@ -41,7 +44,8 @@ metadata-tail metadata body =
     let zeros : List ℕ = replicate (rounded (header_length_of metadata) - header_length_of metadata) 0 in
     ap (take (length metadata)) (append_assoc metadata zeros body) ∙ take_at metadata (zeros ++ body) (length metadata) refl
 
-filling-tail : (metadata body : List ℕ) → drop (length metadata) (tail metadata body) ≡ replicate (rounded (header_length_of metadata) - header_length_of metadata) 0 ++ body
+filling-tail : (metadata body : List ℕ) → drop (length metadata) (tail metadata body)
+    ≡ replicate (rounded (header_length_of metadata) - header_length_of metadata) 0 ++ body
 filling-tail metadata body =
     let zeros : List ℕ = replicate (rounded (header_length_of metadata) - header_length_of metadata) 0 in
     ap (drop (length metadata)) (append_assoc metadata zeros body) ∙ drop_at metadata (zeros ++ body) (length metadata) refl
@@ -56,7 +60,8 @@ front-tail : (metadata body : List ℕ) (n : ℕ) → 8 + n ≡ rounded (header_
 front-tail metadata body n is =
     let h = header_length_of metadata in
     let zeros : List ℕ = replicate (rounded h - h) 0 in
-    take_at (metadata ++ zeros) body n (omega (arith, length-append metadata zeros, length-replicate {A = ℕ} (rounded h - h) 0, rounded_le h)) ∙ sym (append-nil (metadata ++ zeros))
+    take_at (metadata ++ zeros) body n (omega (arith, length-append metadata zeros, length-replicate {A = ℕ} (rounded h - h) 0, rounded_le h))
+    ∙ sym (append-nil (metadata ++ zeros))
 
 -- eight bytes, as a number in unary, so that take and drop compute past them
 pub past_eight : (n : ℕ) → 8 ≤ n → n ≡ suc (suc (suc (suc (suc (suc (suc (suc (n - 8))))))))
@@ -72,7 +77,8 @@ take_past first sum metadata body =
     ap (λ k. take k (layout first sum metadata body)) (past_eight (rounded h) le)
     ∙ ap (λ (rest : List ℕ). first ∷ 0 ∷ big_bytes 2 sum ++ big_bytes 4 h ++ rest) (front-tail metadata body (rounded h - 8) (omega arith))
 
-body_start-layout : (first sum : ℕ) (metadata body : List ℕ) → header_length_of metadata < 2 ^ 32 → body_start (layout first sum metadata body) ≡ rounded (header_length_of metadata)
+body_start-layout : (first sum : ℕ) (metadata body : List ℕ) → header_length_of metadata < 2 ^ 32
+    → body_start (layout first sum metadata body) ≡ rounded (header_length_of metadata)
 body_start-layout first sum metadata body fits = ap rounded (header_length-layout first sum metadata body fits)
 
 covered-layout : (first sum : ℕ) (metadata body : List ℕ) → header_length_of metadata < 2 ^ 32
@@ -82,11 +88,13 @@ covered-layout first sum metadata body fits =
     (ap (λ k. take k (layout first sum metadata body)) (body_start-layout first sum metadata body fits) ∙ take_past first sum metadata body)
   where
     by : (t : Bool) → take (body_start (layout first sum metadata body)) (layout first sum metadata body) ≡ layout first sum metadata []
-        → cond t (layout first sum metadata body) (take (body_start (layout first sum metadata body)) (layout first sum metadata body)) ≡ layout first sum metadata (cond t body [])
+        → cond t (layout first sum metadata body) (take (body_start (layout first sum metadata body))
+        (layout first sum metadata body)) ≡ layout first sum metadata (cond t body [])
     by true head = refl
     by false head = head
 
-pub found_sum-layout : (first sum : ℕ) (metadata body : List ℕ) → header_length_of metadata < 2 ^ 32 → found_sum (layout first sum metadata body) ≡ checksum (summed first metadata body)
+pub found_sum-layout : (first sum : ℕ) (metadata body : List ℕ) → header_length_of metadata < 2 ^ 32
+    → found_sum (layout first sum metadata body) ≡ checksum (summed first metadata body)
 unfolding found_sum
 found_sum-layout first sum metadata body fits = ap (λ bytes. checksum (without_sum bytes)) (covered-layout first sum metadata body fits)
 
@@ -119,7 +127,8 @@ body-layout first sum metadata body fits =
 checksum_small : (bytes : List ℕ) → checksum bytes < 2 ^ 16
 checksum_small bytes = omega arith
 
-layout_passes : (first sum : ℕ) (metadata body : List ℕ) → first / 64 ≡ 0 → header_length_of metadata < 2 ^ 32 → sum ≡ checksum (summed first metadata body) → Passes (layout first sum metadata body)
+layout_passes : (first sum : ℕ) (metadata body : List ℕ) → first / 64 ≡ 0 → header_length_of metadata < 2 ^ 32
+    → sum ≡ checksum (summed first metadata body) → Passes (layout first sum metadata body)
 layout_passes first sum metadata body version fits checked =
     let h = header_length_of metadata in
     let o = layout first sum metadata body in
@@ -155,8 +164,30 @@ pub SpellsObject-said : (descriptor : Bool) (pairs : List Pair) (body : List ℕ
 SpellsObject-said descriptor pairs body says small = by descriptor
   where
     by : (d : Bool) → SpellsObject (object_bytes d pairs body) d pairs body
-    by true = record { first = 3; sum = checksum (layout 3 0 (written pairs) body); metadata = written pairs; joined = refl; version = refl; kind = refl; says = says; fits = omega arith; checked = refl }
-    by false = record { first = 2; sum = checksum (layout 2 0 (written pairs) body); metadata = written pairs; joined = refl; version = refl; kind = refl; says = says; fits = omega arith; checked = refl }
+    by true = record {
+      first = 3;
+      sum = checksum (layout 3 0 (written pairs) body);
+      metadata =
+          written pairs;
+      joined = refl;
+      version = refl;
+      kind = refl;
+      says = says;
+      fits = omega arith;
+      checked = refl;
+    }
+    by false = record {
+      first = 2;
+      sum = checksum (layout 2 0 (written pairs) body);
+      metadata =
+          written pairs;
+      joined = refl;
+      version = refl;
+      kind = refl;
+      says = says;
+      fits = omega arith;
+      checked = refl;
+    }
 
 -- which that of names and values does
 pub SpellsObject-written : (descriptor : Bool) (pairs : List Pair) (body : List ℕ) → ArePairs pairs → length (written pairs) ≤ 4294967287

@@ -1,5 +1,6 @@
 -- Which refusal it is, by the facts that tests of an object show.
-use Rattle.std.proofs.Common.{◌≡◌, ◌≢◌, ℕ, ◌-◌, ◌<◌, ◌≤◌, Bool, true, false, not, ◌||◌, ◌==◌, eqb, ltb, List, [], ◌∷◌, length, take, drop, Option, Some, None, ◌⊎◌, inl, inr, refl, ap, ◌∙◌, arith}
+use Rattle.std.proofs.Common.{◌≡◌, ◌≢◌, ℕ, ◌-◌, ◌<◌, ◌≤◌, Bool, true, false, not, ◌||◌, ◌==◌, eqb, ltb, List, [], ◌∷◌, length}
+use Rattle.std.proofs.Common.{take, drop, Option, Some, None, ◌⊎◌, inl, inr, refl, ap, ◌∙◌, arith}
 use Rattle.std.proofs.lemmas.Bool.{cases_lt, lt-ltb, le-ltb, ltb-false, eq-eqb, ne_eqb, eqb-true, eqb-false, or_parts, not-false}
 use Rattle.wire_bytes.specs.Bytes.{are_zero}
 use Rattle.wire_bytes.specs.FirstFault.{fault_when}
@@ -37,31 +38,68 @@ pub refused_length : (o : List ℕ) → 8 ≤ length o → version_in o ≡ 0 �
 unfolding refusal
 refused_length o long version bad = elim (cases_lt (header_length o) 8) [
   | inl short ↦ rw (le-ltb (length o) 8 long, eq-eqb (version_in o) 0 version, lt-ltb (header_length o) 8 short) refl
-  | inr least ↦ rw (le-ltb (length o) 8 long, eq-eqb (version_in o) 0 version, le-ltb (header_length o) 8 least, lt-ltb (length o) (body_start o) (ends_past o bad least)) refl
+  | inr least ↦ rw (
+    le-ltb (length o) 8 long,
+    eq-eqb (version_in o) 0 version,
+    le-ltb (header_length o) 8 least,
+    lt-ltb (length o) (body_start o) (ends_past o bad least),
+  ) refl
 ]
 
-pub refused_format : (o : List ℕ) → 8 ≤ length o → version_in o ≡ 0 → 8 ≤ header_length o → body_start o ≤ length o → (format_in o ≢ 0) ⊎ (1 < encoding_in o) → refusal o ≡ Some Format
+pub refused_format : (o : List ℕ) → 8 ≤ length o → version_in o ≡ 0 → 8 ≤ header_length o
+    → body_start o ≤ length o → (format_in o ≢ 0) ⊎ (1 < encoding_in o) → refusal o ≡ Some Format
 unfolding refusal
 refused_format o long version least within bad = by (format_in o == 0) refl bad
   where
     by : (t : Bool) → (format_in o == 0) ≡ t → (format_in o ≢ 0) ⊎ (1 < encoding_in o) → refusal o ≡ Some Format
-    by false other bad = rw (le-ltb (length o) 8 long, eq-eqb (version_in o) 0 version, le-ltb (header_length o) 8 least, le-ltb (length o) (body_start o) within, other) refl
+    by false other bad = rw (
+      le-ltb (length o) 8 long,
+      eq-eqb (version_in o) 0 version,
+      le-ltb (header_length o) 8 least,
+      le-ltb (length o) (body_start o) within,
+      other,
+    ) refl
     by true same (inl other) = absurd (other (eqb-true (format_in o) 0 same))
     by true same (inr above) =
-        rw (le-ltb (length o) 8 long, eq-eqb (version_in o) 0 version, le-ltb (header_length o) 8 least, le-ltb (length o) (body_start o) within, same, lt-ltb 1 (encoding_in o) above) refl
+        rw (
+          le-ltb (length o) 8 long,
+          eq-eqb (version_in o) 0 version,
+          le-ltb (header_length o) 8 least,
+          le-ltb (length o) (body_start o) within,
+          same,
+          lt-ltb 1 (encoding_in o) above,
+        ) refl
 
-pub refused_gzip : (o : List ℕ) → 8 ≤ length o → version_in o ≡ 0 → 8 ≤ header_length o → body_start o ≤ length o → format_in o ≡ 0 → encoding_in o ≡ 1 → refusal o ≡ Some Gzip
+pub refused_gzip : (o : List ℕ) → 8 ≤ length o → version_in o ≡ 0 → 8 ≤ header_length o
+    → body_start o ≤ length o → format_in o ≡ 0 → encoding_in o ≡ 1 → refusal o ≡ Some Gzip
 unfolding refusal
 refused_gzip o long version least within format gzip =
-    rw (le-ltb (length o) 8 long, eq-eqb (version_in o) 0 version, le-ltb (header_length o) 8 least, le-ltb (length o) (body_start o) within, eq-eqb (format_in o) 0 format, gzip) refl
+    rw (
+      le-ltb (length o) 8 long,
+      eq-eqb (version_in o) 0 version,
+      le-ltb (header_length o) 8 least,
+      le-ltb (length o) (body_start o) within,
+      eq-eqb (format_in o) 0 format,
+      gzip,
+    ) refl
 
-pub refused_fill : (o : List ℕ) → 8 ≤ length o → version_in o ≡ 0 → 8 ≤ header_length o → body_start o ≤ length o → format_in o ≡ 0 → encoding_in o ≡ 0 → are_zero (filling_in o) ≡ false
+pub refused_fill : (o : List ℕ) → 8 ≤ length o → version_in o ≡ 0 → 8 ≤ header_length o
+    → body_start o ≤ length o → format_in o ≡ 0 → encoding_in o ≡ 0 → are_zero (filling_in o) ≡ false
     → refusal o ≡ Some FillNotZero
 unfolding refusal
 refused_fill o long version least within format plain other =
-    rw (le-ltb (length o) 8 long, eq-eqb (version_in o) 0 version, le-ltb (header_length o) 8 least, le-ltb (length o) (body_start o) within, eq-eqb (format_in o) 0 format, plain, other) refl
+    rw (
+      le-ltb (length o) 8 long,
+      eq-eqb (version_in o) 0 version,
+      le-ltb (header_length o) 8 least,
+      le-ltb (length o) (body_start o) within,
+      eq-eqb (format_in o) 0 format,
+      plain,
+      other,
+    ) refl
 
-pub refused_sum : (o : List ℕ) → 8 ≤ length o → version_in o ≡ 0 → 8 ≤ header_length o → body_start o ≤ length o → format_in o ≡ 0 → encoding_in o ≡ 0 → are_zero (filling_in o) ≡ true
+pub refused_sum : (o : List ℕ) → 8 ≤ length o → version_in o ≡ 0 → 8 ≤ header_length o
+    → body_start o ≤ length o → format_in o ≡ 0 → encoding_in o ≡ 0 → are_zero (filling_in o) ≡ true
     → stated_sum o ≢ found_sum o → refusal o ≡ Some (Checksum (stated_sum o) (found_sum o))
 unfolding refusal
 refused_sum o long version least within format plain zeros other =
@@ -130,5 +168,6 @@ passes_from_none o none =
       format = eqb-true (format_in o) 0 (not-false (eqb (format_in o) 0) formats.0);
       plain = omega (arith, few, other);
       zeros = not-false (are_zero (filling_in o)) (cause_fails (not (are_zero (filling_in o))) FillNotZero n6.0);
-      sum = eqb-true (stated_sum o) (found_sum o) (not-false (eqb (stated_sum o) (found_sum o)) (cause_fails (not (eqb (stated_sum o) (found_sum o))) (Checksum (stated_sum o) (found_sum o)) n7.0));
+      sum = eqb-true (stated_sum o) (found_sum o) (not-false (eqb (stated_sum o) (found_sum o))
+          (cause_fails (not (eqb (stated_sum o) (found_sum o))) (Checksum (stated_sum o) (found_sum o)) n7.0));
     }

@@ -7,7 +7,8 @@ use Rattle.meta_text.specs.Fields.{Pair}
 use Rattle.meta_text.specs.Reading as fields
 use Rattle.compound_object.specs.declared.fault.CompoundFault.{CompoundFault}
 use Rattle.compound_object.specs.declared.fault.CompoundFault.TheVariants.{Short, Version, HeaderLength, Format, Gzip, FillNotZero, Checksum, Fields, Memory}
-use Rattle.compound_object.specs.Reading.{header_length, body_start, metadata_in, body_in, is_descriptor, refusal, Parts, with_fields, unless, reading, Fails, FailsFields}
+use Rattle.compound_object.specs.Reading.{header_length, body_start, metadata_in, body_in, is_descriptor, refusal, Parts}
+use Rattle.compound_object.specs.Reading.{with_fields, unless, reading, Fails, FailsFields}
 
 pub reading_refused : (o : List ℕ) (fault : CompoundFault) → refusal o ≡ Some fault → reading o ≡ Err fault
 unfolding reading
@@ -30,7 +31,8 @@ Fails_is (Fields f) read e = e
 Fails_is Memory read e = tt
 
 -- the fault of the metadata is what the bytes say
-pub Fails_fields : (o : List ℕ) (fault : CompoundFault) (metadata : List ℕ) → refusal o ≡ None → metadata ≡ metadata_in o → FailsFields fault (fields.reading metadata) → Fails fault (reading o)
+pub Fails_fields : (o : List ℕ) (fault : CompoundFault) (metadata : List ℕ) → refusal o ≡ None
+    → metadata ≡ metadata_in o → FailsFields fault (fields.reading metadata) → Fails fault (reading o)
 Fails_fields o Memory metadata sound is f = tt
 Fails_fields o (Fields e) metadata sound is f = reading_sound o sound ∙ ap (λ (m : List ℕ). with_fields o (fields.reading m)) (sym is) ∙ ap (with_fields o) f
 Fails_fields o Short metadata sound is f = absurd f
@@ -48,7 +50,8 @@ metadata_is o h is = ap (λ k. take (k - 8) (drop 8 o)) is
 pub body_is : (o : List ℕ) (p : ℕ) → p ≡ body_start o → take (length o - p) (drop p o) ≡ body_in o
 body_is o p is = take_rest o p ∙ ap (λ k. drop k o) is
 
-pub reading_ok : (o : List ℕ) (metadata body : List ℕ) (pairs : List Pair) → refusal o ≡ None → metadata ≡ metadata_in o → body ≡ body_in o → fields.reading metadata ≡ Ok pairs
+pub reading_ok : (o : List ℕ) (metadata body : List ℕ) (pairs : List Pair) → refusal o ≡ None
+    → metadata ≡ metadata_in o → body ≡ body_in o → fields.reading metadata ≡ Ok pairs
     → reading o ≡ Ok (record { descriptor = is_descriptor o; fields = pairs; body = body })
 reading_ok o metadata body pairs sound is rest said =
     let made : List ℕ → Result Parts CompoundFault = λ b. Ok (record { descriptor = is_descriptor o; fields = pairs; body = b }) in

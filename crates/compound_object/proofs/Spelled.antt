@@ -1,5 +1,6 @@
 -- An object that is read is spelled so, each byte of it.
-use Rattle.std.proofs.Common.{◌≡◌, ℕ, zero, suc, ◌+◌, ◌-◌, ◌*◌, ◌^◌, ◌<◌, ◌≤◌, true, List, [], ◌∷◌, ◌++◌, length, get_or, take, drop, replicate, Option, Some, None, Result, Ok, Err, refl, sym, ap, subst, ◌∙◌, append_assoc, arith}
+use Rattle.std.proofs.Common.{◌≡◌, ℕ, zero, suc, ◌+◌, ◌-◌, ◌*◌, ◌^◌, ◌<◌, ◌≤◌, true, List, [], ◌∷◌, ◌++◌, length, get_or, take}
+use Rattle.std.proofs.Common.{drop, replicate, Option, Some, None, Result, Ok, Err, refl, sym, ap, subst, ◌∙◌, append_assoc, arith}
 use Rattle.std.specs.Prelude.{IfOk}
 use Rattle.wire_bytes.specs.Bytes.{AreBytes, are_zero}
 use Rattle.wire_bytes.proofs.Public.{zeros_are, byte_at_place}
@@ -12,7 +13,8 @@ use Rattle.meta_text.specs.Reading as fields
 use Rattle.compound_object.specs.declared.fault.CompoundFault.{CompoundFault}
 use Rattle.compound_object.specs.declared.compound.Compound.{Compound}
 use Rattle.compound_object.specs.Object.{rounded, header_length_of, layout, SpellsObject}
-use Rattle.compound_object.specs.Reading.{header_length, metadata_in, filling_in, body_in, is_descriptor, stated_sum, found_sum, refusal, Parts, parts_of, with_fields, unless, reading, Gives}
+use Rattle.compound_object.specs.Reading.{header_length, metadata_in, filling_in, body_in, is_descriptor, stated_sum, found_sum}
+use Rattle.compound_object.specs.Reading.{refusal, Parts, parts_of, with_fields, unless, reading, Gives}
 use Rattle.compound_object.proofs.Refusals.{Passes, passes_from_none}
 use Rattle.compound_object.proofs.Layouts.{tail, past_eight, found_sum-layout}
 
@@ -113,7 +115,8 @@ pub spelled-reading : (o : List ℕ) (parts : Parts) → AreBytes o → reading 
 unfolding reading
 spelled-reading o parts fits e = by (refusal o) refl e
   where
-    by : (f : Option CompoundFault) → refusal o ≡ f → unless f (with_fields o (fields.reading (metadata_in o))) ≡ Ok parts → SpellsObject o parts.descriptor parts.fields parts.body
+    by : (f : Option CompoundFault) → refusal o ≡ f → unless f (with_fields o (fields.reading (metadata_in o))) ≡ Ok parts
+        → SpellsObject o parts.descriptor parts.fields parts.body
     by None none e =
         let said = said_ok o (fields.reading (metadata_in o)) parts e in
         subst (λ b. SpellsObject o parts.descriptor parts.fields b) said.2

@@ -10,7 +10,8 @@ use Rattle.edge_io.specs.Stages.{FindsItem}
 use Rattle.edge_io.specs.Reads.{Filled}
 
 -- a read after others puts its bytes behind theirs
-pub front_more : (got count : ℕ) (out ys post left : List ℕ) → got ≤ length out → count ≤ length ys → take got out ≡ take got left → take count ys ≡ take count (drop got left)
+pub front_more : (got count : ℕ) (out ys post left : List ℕ) → got ≤ length out
+    → count ≤ length ys → take got out ≡ take got left → take count ys ≡ take count (drop got left)
     → take (got + count) (take got out ++ (ys ++ post)) ≡ take (got + count) left
 front_more got count out ys post left ho hc before now =
     let l : length (take got out) ≡ got = length-take-le got out ho in
@@ -21,7 +22,8 @@ front_more got count out ys post left ho hc before now =
     ∙ sym (take-add got count left)
 
 -- whether the magic stands at the front shows in the first eight bytes
-pub magic_read : (n : ℕ) (out post left left' : List ℕ) → length out ≡ 8 → Filled n out left left' → starts_with nat_eq (take n (out ++ post)) magic ≡ starts_with nat_eq left magic
+pub magic_read : (n : ℕ) (out post left left' : List ℕ) → length out ≡ 8 → Filled n out left left'
+    → starts_with nat_eq (take n (out ++ post)) magic ≡ starts_with nat_eq left magic
 magic_read n out post left left' eight f =
     let within : n ≤ length out = omega (arith, f.count) in
     let is : n ≡ min 8 (length left) = f.count ∙ ap (λ k. min k (length left)) eight in
@@ -51,7 +53,8 @@ length_read n size out post left mid l f not0 not1 is_stated ha hb =
     record { two = two; high = omega arith; low = omega arith; size_is = omega arith; rest = f.rest ∙ ap (λ k. drop k left) is }
 
 -- as many bytes follow as the length states: a whole item was found
-pub whole_read : (size n : ℕ) (out post left mid left' : List ℕ) → LengthRead size left mid → length out ≡ size → Filled n out mid left' → size ≤ n → FindsItem size (out ++ post) left left'
+pub whole_read : (size n : ℕ) (out post left mid left' : List ℕ) → LengthRead size left mid
+    → length out ≡ size → Filled n out mid left' → size ≤ n → FindsItem size (out ++ post) left left'
 whole_read size n out post left mid left' r l f enough =
     let is : n ≡ size = omega (arith, f.count) in
     let later : length mid ≡ length left - 2 = ap length r.rest ∙ length-drop 2 left in

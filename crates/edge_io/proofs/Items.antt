@@ -1,5 +1,7 @@
 -- Items at the front of a text.
-use Rattle.std.proofs.Common.{◌≡◌, ℕ, zero, suc, ◌+◌, ◌-◌, ◌/◌, ◌%◌, ◌^◌, ◌<◌, ◌≤◌, true, false, cond, List, [], ◌∷◌, ◌++◌, flat_map, length, take, drop, get_or, refl, sym, ◌∙◌, ap, subst, inl, inr, arith, append_assoc, length-append, length-drop}
+use Rattle.std.proofs.Common.{◌≡◌, ℕ, zero, suc, ◌+◌, ◌-◌, ◌/◌, ◌%◌, ◌^◌, ◌<◌, ◌≤◌, true, false, cond, List, [], ◌∷◌, ◌++◌}
+use Rattle.std.proofs.Common.{flat_map, length, take, drop, get_or, refl, sym, ◌∙◌, ap, subst, inl, inr, arith, append_assoc}
+use Rattle.std.proofs.Common.{length-append, length-drop}
 use Rattle.std.proofs.lemmas.List.{take-append-drop, drop-drop, take_at, drop_at, length-take-le, nil_from_length}
 use Rattle.std.proofs.lemmas.Bool.{ltb-true, leb-true, lt-ltb, le-leb, and_parts, and_from, cases_Bool, false_from_ne_true, both_ways, cond-true, cond-false}
 use Rattle.edge_io.specs.Log.{item, AreShort, StartsNoItem, stated, has_item, first_datagram, after_item, items_within, rest_within, items_of, rest_of}
@@ -85,7 +87,8 @@ items_enough zero zero bytes hm hn = refl
 items_enough zero (suc n) bytes hm hn = let e : bytes ≡ [] = nil_from_length bytes (omega arith) in rw e refl
 items_enough (suc m) zero bytes hm hn = let e : bytes ≡ [] = nil_from_length bytes (omega arith) in rw e refl
 items_enough (suc m) (suc n) bytes hm hn =
-    ap (λ r. cond (has_item bytes) (first_datagram bytes ∷ r) []) (items_enough m n (after_item bytes) (omega (arith, length_after bytes)) (omega (arith, length_after bytes)))
+    ap (λ r. cond (has_item bytes) (first_datagram bytes ∷ r) [])
+    (items_enough m n (after_item bytes) (omega (arith, length_after bytes)) (omega (arith, length_after bytes)))
 
 rest_enough : (m n : ℕ) (bytes : List ℕ) → length bytes ≤ m → length bytes ≤ n → rest_within m bytes ≡ rest_within n bytes
 unfolding rest_within
@@ -100,7 +103,8 @@ items_suc : (n : ℕ) (bytes : List ℕ) → length bytes ≤ suc n → items_of
 unfolding items_of items_within
 items_suc n bytes h =
     items_enough (length bytes) (suc n) bytes (omega arith) h
-    ∙ ap (λ r. cond (has_item bytes) (first_datagram bytes ∷ r) []) (items_enough n (length (after_item bytes)) (after_item bytes) (omega (arith, length_after bytes)) (omega arith))
+    ∙ ap (λ r. cond (has_item bytes) (first_datagram bytes ∷ r) [])
+    (items_enough n (length (after_item bytes)) (after_item bytes) (omega (arith, length_after bytes)) (omega arith))
 
 rest_suc : (n : ℕ) (bytes : List ℕ) → length bytes ≤ suc n → rest_of bytes ≡ cond (has_item bytes) (rest_of (after_item bytes)) bytes
 unfolding rest_of rest_within
@@ -172,7 +176,11 @@ parts_none bytes h =
 parts_by : (n : ℕ) (bytes : List ℕ) → length bytes ≤ n → Parts bytes
 parts_by zero bytes h = parts_none bytes (ap has_item (nil_from_length bytes (omega arith)))
 parts_by (suc n) bytes h =
-    elim (cases_Bool (has_item bytes)) [ inl e ↦ parts_whole bytes e (parts_by n (after_item bytes) (let w = whole bytes e in omega (arith, length_after bytes))) | inr e ↦ parts_none bytes e ]
+    elim (cases_Bool (has_item bytes)) [
+      | inl e ↦ parts_whole bytes e (parts_by n (after_item bytes)
+          (let w = whole bytes e in omega (arith, length_after bytes)))
+      | inr e ↦ parts_none bytes e
+    ]
 
 pub parts : (bytes : List ℕ) → Parts bytes
 parts bytes = parts_by (length bytes) bytes (omega arith)

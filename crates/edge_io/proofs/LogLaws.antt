@@ -1,11 +1,13 @@
 -- The datagrams and the torn place of a text, as the format says them.
-use Rattle.std.proofs.Common.{◌≡◌, ℕ, ◌+◌, ◌≤◌, true, false, cond, List, [], ◌∷◌, ◌++◌, flat_map, length, drop, Option, Some, None, nat_eq, refl, sym, ◌∙◌, ap, subst, arith, inl, inr, append_assoc, length-append}
+use Rattle.std.proofs.Common.{◌≡◌, ℕ, ◌+◌, ◌≤◌, true, false, cond, List, [], ◌∷◌, ◌++◌, flat_map, length, drop, Option, Some, None}
+use Rattle.std.proofs.Common.{nat_eq, refl, sym, ◌∙◌, ap, subst, arith, inl, inr, append_assoc, length-append}
 use Rattle.std.specs.List.{starts_with}
 use Rattle.std.proofs.lemmas.Grind.{flat_map-append}
 use Rattle.std.proofs.lemmas.List.Prefix.{front_rest}
 use Rattle.std.proofs.lemmas.List.{append-nil, nil_from_length}
 use Rattle.std.proofs.lemmas.Bool.{cases_Bool, cases_eq, both_ways, false_from_ne_true, cond-true, cond-false, eq-eqb, ne_eqb}
-use Rattle.edge_io.specs.Log.{magic, item, log, AreShort, IsLog, StartsNoMagic, IsCut, IsLongestLog, HasNoLog, HasDatagrams, IsTornBehind, HasTornPlace, items_of, rest_of, torn_from, datagrams_of, torn_at}
+use Rattle.edge_io.specs.Log.{magic, item, log, AreShort, IsLog, StartsNoMagic, IsCut, IsLongestLog, HasNoLog, HasDatagrams}
+use Rattle.edge_io.specs.Log.{IsTornBehind, HasTornPlace, items_of, rest_of, torn_from, datagrams_of, torn_at}
 use Rattle.edge_io.proofs.Items.{parts, no_item, has_no_item, items_append, rest_append, items_none, rest_none}
 use Rattle.edge_io.proofs.Texts.{has_magic, starts_magic, datagrams_with, torn_with, datagrams_without, torn_without, datagrams_short}
 
@@ -47,7 +49,14 @@ longest : (text : List ℕ) (es : List (List ℕ)) (more : List ℕ) → AreShor
 longest text es more s e =
     let longer = ap (λ ds. length (log ds)) (datagrams_append text es more s e) in
     let split = ap (λ t. length (magic ++ t)) (flat_map-append item es (items_of more)) in
-    omega (arith, longer, split, length-append magic (flat_map item es), length-append magic (flat_map item es ++ flat_map item (items_of more)), length-append (flat_map item es) (flat_map item (items_of more)))
+    omega (
+      arith,
+      longer,
+      split,
+      length-append magic (flat_map item es),
+      length-append magic (flat_map item es ++ flat_map item (items_of more)),
+      length-append (flat_map item es) (flat_map item (items_of more)),
+    )
 
 no_log : (text : List ℕ) → starts_with nat_eq text magic ≡ false → HasNoLog text
 no_log text h es more s e = both_ways _ h (starts text es more e)
@@ -73,7 +82,15 @@ all_in_longest text ds l =
     let longer = ap (λ es. length (log es)) all in
     let split = ap (λ t. length (magic ++ t)) (flat_map-append item ds (items_of l.rest)) in
     let none : length (flat_map item (items_of l.rest)) ≡ 0 =
-    omega (arith, no_longer, longer, split, length-append magic (flat_map item ds), length-append magic (flat_map item ds ++ flat_map item (items_of l.rest)), length-append (flat_map item ds) (flat_map item (items_of l.rest))) in
+    omega (
+      arith,
+      no_longer,
+      longer,
+      split,
+      length-append magic (flat_map item ds),
+      length-append magic (flat_map item ds ++ flat_map item (items_of l.rest)),
+      length-append (flat_map item ds) (flat_map item (items_of l.rest)),
+    ) in
     all ∙ ap (λ es. ds ++ es) (no_bytes (items_of l.rest) none) ∙ append-nil ds
 
 none_without_log : (text : List ℕ) → HasNoLog text → datagrams_of text ≡ []
@@ -121,10 +138,12 @@ torn_of_cut : (text rest : List ℕ) → IsCut text (datagrams_of text) rest →
 torn_of_cut text rest c =
     elim (cases_eq (length rest) 0) [
       | inl e ↦ (let none : torn_at text ≡ None = torn_by text _ rest c ∙ cond-true _ _ _ (eq-eqb (length rest) 0 e) in
-          let l : IsLog text (datagrams_of text) = record { short = c.short; is = c.is ∙ ap (λ r. log (datagrams_of text) ++ r) (nil_from_length rest e) ∙ append-nil (log (datagrams_of text)) } in
+          let l : IsLog text (datagrams_of text) =
+          record { short = c.short; is = c.is ∙ ap (λ r. log (datagrams_of text) ++ r) (nil_from_length rest e) ∙ append-nil (log (datagrams_of text)) } in
           subst (HasTornPlace text) (sym none) (datagrams_of text, l))
       | inr n ↦ (let some : torn_at text ≡ Some (length (log (datagrams_of text))) = torn_by text _ rest c ∙ cond-false _ _ _ (ne_eqb (length rest) 0 n) in
-          let t : IsTornBehind text (length (log (datagrams_of text))) = record { datagrams = datagrams_of text; rest = rest; cut = c; some = λ e. n (ap length e); there = refl } in
+          let t : IsTornBehind text (length (log (datagrams_of text))) =
+          record { datagrams = datagrams_of text; rest = rest; cut = c; some = λ e. n (ap length e); there = refl } in
           subst (HasTornPlace text) (sym some) (inr t))
     ]
 

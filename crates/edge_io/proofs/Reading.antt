@@ -1,5 +1,6 @@
 -- Reading a log item by item.
-use Rattle.std.proofs.Common.{◌≡◌, ℕ, ◌+◌, ◌-◌, ◌^◌, ◌<◌, ◌≤◌, ◌≢◌, min, true, false, cond, List, [], ◌∷◌, ◌++◌, flat_map, length, take, Some, None, nat_eq, refl, sym, ◌∙◌, ap, arith, length-append, length-drop, add-zero}
+use Rattle.std.proofs.Common.{◌≡◌, ℕ, ◌+◌, ◌-◌, ◌^◌, ◌<◌, ◌≤◌, ◌≢◌, min, true, false, cond, List, [], ◌∷◌, ◌++◌, flat_map, length}
+use Rattle.std.proofs.Common.{take, Some, None, nat_eq, refl, sym, ◌∙◌, ap, arith, length-append, length-drop, add-zero}
 use Rattle.std.proofs.lemmas.List.{length-take-le, nil_from_length}
 use Rattle.std.proofs.lemmas.Bool.{cond-false, ne_eqb}
 use Rattle.edge_io.specs.Log.{item, has_item, stated, first_datagram, after_item, items_of, rest_of, rest_within, torn_from}
@@ -7,7 +8,8 @@ use Rattle.edge_io.specs.Stages.{FindsItem}
 use Rattle.edge_io.proofs.Items.{Whole, whole, length_first, items_whole, rest_whole, items_none, rest_none}
 
 -- the items behind a whole one are torn where the items from it on are
-torn_whole : (place n : ℕ) (bytes : List ℕ) → has_item bytes ≡ true → length (first_datagram bytes) ≡ n → torn_from (place + (2 + n)) (after_item bytes) ≡ torn_from place bytes
+torn_whole : (place n : ℕ) (bytes : List ℕ) → has_item bytes ≡ true → length (first_datagram bytes) ≡ n
+    → torn_from (place + (2 + n)) (after_item bytes) ≡ torn_from place bytes
 unfolding torn_from
 torn_whole place n bytes h l =
     let later = flat_map item (items_of (after_item bytes)) in

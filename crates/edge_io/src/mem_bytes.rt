@@ -74,7 +74,8 @@ impl Bytes for MemBytes {
         ensures within { IfOk result (λ n. n ≤ length out.new) }
         ensures bytes { IfOk result (λ n. Reads n out.new (drop self.old.source.at self.old.source.bytes.items) (drop self.new.source.at self.new.source.bytes.items)) }
         ensures fewer { length (drop self.old.source.at self.old.source.bytes.items) < 2 ^ 64 }
-        ensures size { IfOk result (λ n. n ≡ min (length (drop self.old.source.at self.old.source.bytes.items)) (min (length out.new) (slice_index_or self.old.sizes.items self.old.used (length out.new)))) }
+        ensures size { IfOk result (λ n. n ≡ min (length (drop self.old.source.at self.old.source.bytes.items))
+            (min (length out.new) (slice_index_or self.old.sizes.items self.old.used (length out.new)))) }
         ensures used { OnOk result (self.new.used ≡ min (self.old.used + 1) (vec_len self.old.sizes)) }
         ensures sizes { self.new.sizes ≡ self.old.sizes }
         ensures kept { IsErr result → self.new.source ≡ self.old.source }

@@ -50,11 +50,13 @@ pub if_done : (answer : Result ℕ Fault) (result : ℕ) (P : ℕ → Type 0) �
 if_done (Ok s) result P ends done holds = subst P (sym ends.is) holds
 if_done (Err f) result P ends done holds = absurd (not_done f result ends.is done)
 
-pub text_if_done : (answer : Result ℕ Fault) (result : ℕ) (report old new : List ℕ) → Ends answer result → IsDone result → LeavesText answer report old new → new ≡ old ++ report
+pub text_if_done : (answer : Result ℕ Fault) (result : ℕ) (report old new : List ℕ)
+    → Ends answer result → IsDone result → LeavesText answer report old new → new ≡ old ++ report
 text_if_done (Ok s) result report old new ends done leaves = leaves
 text_if_done (Err f) result report old new ends done leaves = absurd (not_done f result ends.is done)
 
-pub shelf_if_done : (answer : Result ℕ Fault) (result : ℕ) (calls : List Call) (old new : Shelved) → Ends answer result → IsDone result → LeavesShelf answer calls old new → new ≡ after calls old
+pub shelf_if_done : (answer : Result ℕ Fault) (result : ℕ) (calls : List Call) (old new : Shelved)
+    → Ends answer result → IsDone result → LeavesShelf answer calls old new → new ≡ after calls old
 shelf_if_done (Ok s) result calls old new ends done leaves = leaves
 shelf_if_done (Err f) result calls old new ends done leaves = absurd (not_done f result ends.is done)
 
@@ -67,7 +69,8 @@ pub nothing_written : (report old new : List ℕ) → new ≡ old → WritesPart
 nothing_written report old new is = record { written = 0; text = is ∙ sym (append-nil old) }
 
 -- where no device failed, the run came to its end, or there was no memory
-pub complete : (answer : Result ℕ Fault) (result o : ℕ) (d t s : Type 0) → Ends answer result → (d → ⊥) → (t → ⊥) → (s → ⊥) → Blames answer d t s → IfOk answer (λ v. v ≡ o) → (result ≡ o) ⊎ (result ≡ 9)
+pub complete : (answer : Result ℕ Fault) (result o : ℕ) (d t s : Type 0) → Ends answer result → (d → ⊥)
+    → (t → ⊥) → (s → ⊥) → Blames answer d t s → IfOk answer (λ v. v ≡ o) → (result ≡ o) ⊎ (result ≡ 9)
 complete (Ok v) result o d t s ends nd nt ns blames is = inl (ends.is ∙ is)
 complete (Err Datagrams) result o d t s ends nd nt ns blames is = absurd (nd blames)
 complete (Err Text) result o d t s ends nd nt ns blames is = absurd (nt blames)
@@ -77,7 +80,8 @@ complete (Err Memory) result o d t s ends nd nt ns blames is = inr ends.is
 -- ---- the report is written last
 
 -- the shelf has all calls, whatever text answers
-pub shelf_then_text : (answer : Result ℕ Fault) (t : Type 0) (calls : List Call) (old new : Shelved) → Blames answer ⊥ t ⊥ → new ≡ after calls old → LeavesShelf answer calls old new
+pub shelf_then_text : (answer : Result ℕ Fault) (t : Type 0) (calls : List Call) (old new : Shelved)
+    → Blames answer ⊥ t ⊥ → new ≡ after calls old → LeavesShelf answer calls old new
 shelf_then_text (Ok s) t calls old new blames is = is
 shelf_then_text (Err Datagrams) t calls old new blames is = absurd blames
 shelf_then_text (Err Text) t calls old new blames is = is
@@ -85,7 +89,8 @@ shelf_then_text (Err Shelf) t calls old new blames is = absurd blames
 shelf_then_text (Err Memory) t calls old new blames is = part_all calls old new is
 
 -- a status at which the shelf isn't touched is the list's
-pub apart_then_text : (answer : Result ℕ Fault) (t : Type 0) (status : ℕ) → Blames answer ⊥ t ⊥ → IfOk answer (λ s. s ≡ status) → is_apart (status_of_answer answer) ≡ true → is_apart status ≡ true
+pub apart_then_text : (answer : Result ℕ Fault) (t : Type 0) (status : ℕ) → Blames answer ⊥ t ⊥
+    → IfOk answer (λ s. s ≡ status) → is_apart (status_of_answer answer) ≡ true → is_apart status ≡ true
 apart_then_text (Ok s) t status blames is apart = ap is_apart (sym is) ∙ apart
 apart_then_text (Err Datagrams) t status blames is apart = absurd blames
 apart_then_text (Err Text) t status blames is apart = cc

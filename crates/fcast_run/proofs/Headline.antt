@@ -39,12 +39,14 @@ use Rattle.receiver_core.proofs.Public.{best_is_best}
 says_reply : (d : List ℕ) → AreBytes d → Says d (reply d)
 says_reply d bytes = let a = some_answer d bytes in subst (λ r. Says d r) (sym (answered d a.0 a.1)) a.1
 
-of_symbol : (s : Session) (tsi : ℕ) (d : List ℕ) (q p : SymbolPacket) → IsDatagramOf s tsi d → Spells d q → (b : Bool) → (q.tsi == tsi) ≡ b → (if b then Some q else None) ≡ Some p → IsOf s p
+of_symbol : (s : Session) (tsi : ℕ) (d : List ℕ) (q p : SymbolPacket) → IsDatagramOf s tsi d
+    → Spells d q → (b : Bool) → (q.tsi == tsi) ≡ b → (if b then Some q else None) ≡ Some p → IsOf s p
 of_symbol s tsi d q p is spells true same e =
     subst (IsOf s) (let h : q ≡ p = cc in h) (record { packet = spells.packet; belongs = is.belongs q spells (eqb-true q.tsi tsi same) })
 of_symbol s tsi d q p is spells false same e = cc
 
-of_reply : (s : Session) (tsi : ℕ) (d : List ℕ) (p : SymbolPacket) → IsDatagramOf s tsi d → (r : Result Datagram Refusal) → Says d r → packet_of_reply tsi r ≡ Some p → IsOf s p
+of_reply : (s : Session) (tsi : ℕ) (d : List ℕ) (p : SymbolPacket) → IsDatagramOf s tsi d
+    → (r : Result Datagram Refusal) → Says d r → packet_of_reply tsi r ≡ Some p → IsOf s p
 of_reply s tsi d p is (Err refusal) says e = cc
 of_reply s tsi d p is (Ok (datagrams.Symbol q)) says e = of_symbol s tsi d q p is says (q.tsi == tsi) refl e
 of_reply s tsi d p is (Ok (datagrams.Control t close)) says e = cc
@@ -62,7 +64,8 @@ packets_are s tsi (d ∷ ds) all =
 
 -- ---- what the calls of an installation leave on the shelf
 
-puts_leave : (files : List FileOf) (s : Shelved) → after (map put_of files) s ≡ record { done = s.done; number = s.number; files = s.files ++ map (λ f. (f.toi, f.body)) files }
+puts_leave : (files : List FileOf) (s : Shelved) → after (map put_of files) s
+    ≡ record { done = s.done; number = s.number; files = s.files ++ map (λ f. (f.toi, f.body)) files }
 puts_leave [] s = ap (λ fs. record { done = s.done; number = s.number; files = fs }) (sym (append-nil s.files))
 puts_leave (f ∷ files) s =
     puts_leave files (with_file s f.toi f.body)
@@ -107,7 +110,8 @@ headline s c left torn result shelf shelf' text text' session datagrams at_end s
     ∙ ap (λ qs. outcome_of (replayed c left torn).place End (drops c.budget qs) (installed_after c.budget qs)) packets in
     record {
       best = installed_after c.budget ps;
-      greatest = subst (λ (objects : Objects). IsBestOf objects (installed_after c.budget ps)) (λ i t. whole_is_sent s c.budget ps t session (packets_are s c.tsi left datagrams) i) (best_is_best (held_after c.budget ps));
+      greatest = subst (λ (objects : Objects). IsBestOf objects (installed_after c.budget ps))
+          (λ i t. whole_is_sent s c.budget ps t session (packets_are s c.tsi left datagrams) i) (best_is_best (held_after c.budget ps));
       installed = installs (installed_after c.budget ps) shelf shelf' (shelved ∙ ap (λ (u : Outcome). after u.calls shelf) o);
       reported = written ∙ ap (λ (u : Outcome). text ++ u.report) o
           ∙ ap (λ l. text ++ (best_lines (installed_after c.budget ps) ++ l)) (append-nil (over_line (drops c.budget ps)));

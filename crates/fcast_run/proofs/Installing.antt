@@ -16,7 +16,8 @@ after-append (c ∷ cs) ds s = after-append cs ds (after_call c s)
 pub put_more : (files : List FileOf) (i : ℕ) (f : FileOf) (s : Shelved) → i < length files → get_or files i f ≡ f
     → after (take (i + 1) (map put_of files)) s ≡ with_file (after (take i (map put_of files)) s) f.toi f.body
 put_more files i f s less is =
-    ap (λ cs. after cs s) (take-map put_of (i + 1) files ∙ map_more put_of files i f less ∙ ap (λ x. map put_of (take i files) ++ put_of x ∷ []) is ∙ ap (λ cs. cs ++ put_of f ∷ []) (sym (take-map put_of i files)))
+    ap (λ cs. after cs s) (take-map put_of (i + 1) files ∙ map_more put_of files i f less
+    ∙ ap (λ x. map put_of (take i files) ++ put_of x ∷ []) is ∙ ap (λ cs. cs ++ put_of f ∷ []) (sym (take-map put_of i files)))
     ∙ after-append (take i (map put_of files)) (put_of f ∷ []) s
 
 -- what a part of later calls accepts is a part of all of them
@@ -24,7 +25,8 @@ pub fewer_later : (c : Call) (cs ds : List Call) (old new : Shelved) → Accepts
 fewer_later c cs ds old new part = record {
   accepted = part.accepted + 1;
   fewer = omega (arith, part.fewer, length-append cs ds);
-  holds = part.holds ∙ ap (λ es. after es (after_call c old)) (sym (take-append-le part.accepted cs ds (omega (arith, part.fewer)))) ∙ ap (λ n. after (take n (c ∷ (cs ++ ds))) old) (sym (add-one part.accepted));
+  holds = part.holds ∙ ap (λ es. after es (after_call c old)) (sym (take-append-le part.accepted cs ds (omega (arith, part.fewer))))
+      ∙ ap (λ n. after (take n (c ∷ (cs ++ ds))) old) (sym (add-one part.accepted));
 }
 
 -- all but the last were accepted
@@ -32,11 +34,13 @@ pub fewer_last : (c : Call) (cs : List Call) (d : Call) (old new : Shelved) → 
 fewer_last c cs d old new is = record {
   accepted = length cs + 1;
   fewer = omega (arith, length-append cs (d ∷ []));
-  holds = is ∙ ap (λ es. after es (after_call c old)) (sym (take-append_seam cs (d ∷ []))) ∙ ap (λ n. after (take n (c ∷ (cs ++ d ∷ []))) old) (sym (add-one (length cs)));
+  holds = is ∙ ap (λ es. after es (after_call c old)) (sym (take-append_seam cs (d ∷ [])))
+      ∙ ap (λ n. after (take n (c ∷ (cs ++ d ∷ []))) old) (sym (add-one (length cs)));
 }
 
 -- all were accepted
-pub all_accepted : (c : Call) (cs : List Call) (d : Call) (old between new : Shelved) → between ≡ after cs (after_call c old) → new ≡ after_call d between → new ≡ after (c ∷ (cs ++ d ∷ [])) old
+pub all_accepted : (c : Call) (cs : List Call) (d : Call) (old between new : Shelved)
+    → between ≡ after cs (after_call c old) → new ≡ after_call d between → new ≡ after (c ∷ (cs ++ d ∷ [])) old
 all_accepted c cs d old between new before now = now ∙ ap (after_call d) before ∙ sym (after-append cs (d ∷ []) (after_call c old))
 
 -- all of the calls are a part of them

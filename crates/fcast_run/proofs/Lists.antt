@@ -1,5 +1,6 @@
 -- A list of which a front is taken.
-use Rattle.std.proofs.Common.{◌≡◌, ℕ, zero, suc, ◌+◌, ◌≤◌, ◌<◌, Bool, true, false, List, [], ◌∷◌, ◌++◌, ◌∙◌, refl, sym, ap, arith, length, take, drop, Option, length-drop, add-one}
+use Rattle.std.proofs.Common.{◌≡◌, ℕ, zero, suc, ◌+◌, ◌≤◌, ◌<◌, Bool, true, false, List, [], ◌∷◌, ◌++◌, ◌∙◌, refl, sym, ap, arith}
+use Rattle.std.proofs.Common.{length, take, drop, Option, length-drop, add-one}
 use Rattle.std.specs.Prelude.{nat_lt, if◌then◌else◌}
 use Rattle.std.proofs.lemmas.List.{take_all}
 use Rattle.std.proofs.Math.ListN.{drop_of_length-le}
@@ -50,7 +51,8 @@ pub ends_over : (most : ℕ) (left : List (List ℕ)) (torn : Option ℕ) → mo
 ends_over most left torn more = rw (is_more most (length left) (omega (arith, more))) refl
 
 -- a list that was read to its end was taken as a whole
-all_of_it : (b : Bool) (most : ℕ) (left : List (List ℕ)) (torn : Option ℕ) → nat_lt most (length left) ≡ b → (if b then TooMany else ending_at torn) ≡ End → take most left ≡ left
+all_of_it : (b : Bool) (most : ℕ) (left : List (List ℕ)) (torn : Option ℕ)
+    → nat_lt most (length left) ≡ b → (if b then TooMany else ending_at torn) ≡ End → take most left ≡ left
 all_of_it true most left torn h e = cc
 all_of_it false most left torn h e = take_all most left (grind (arith, nat_tests))
 

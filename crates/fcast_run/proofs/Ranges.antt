@@ -46,7 +46,8 @@ number_fits least greatest text v e =
     let r = in_range (is_numeral text) least greatest (digits_value 10 text) c.0 in
     (omega (arith, r.0, c.1), omega (arith, r.1, c.1))
 
-number_or_fits : (least greatest default : ℕ) (text : Option (List ℕ)) (v : ℕ) → least ≤ default → default ≤ greatest → number_or least greatest (Some default) text ≡ Some v → (least ≤ v) × (v ≤ greatest)
+number_or_fits : (least greatest default : ℕ) (text : Option (List ℕ)) (v : ℕ) → least ≤ default
+    → default ≤ greatest → number_or least greatest (Some default) text ≡ Some v → (least ≤ v) × (v ≤ greatest)
 number_or_fits least greatest default None v low high e = let same : default ≡ v = cc in (omega (arith, same, low), omega (arith, same, high))
 number_or_fits least greatest default (Some text) v low high e = number_fits least greatest text v e
 

@@ -41,7 +41,8 @@ over_base TooMany n best s is seven = λ zero. let both = sym is ∙ seven in om
 
 pub over_of : (c : Settings) (left : List (List ℕ)) (torn : Option ℕ) (s : ℕ) → s ≡ (replayed c left torn).status → s ≡ 7 → drops c.budget (packets_taken c left) ≢ 0
 unfolding replayed
-over_of c left torn s is seven = over_base (ending_of c.most left torn) (drops c.budget (packets_taken c left)) (installed_after c.budget (packets_taken c left)) s is seven
+over_of c left torn s is seven = over_base (ending_of c.most left torn)
+    (drops c.budget (packets_taken c left)) (installed_after c.budget (packets_taken c left)) s is seven
 
 -- 0 and 2 say that none was
 below_seven : (s : ℕ) → (s ≡ 0) ⊎ (s ≡ 2) → s ≢ 7
@@ -59,18 +60,22 @@ none_base (Torn at) n best s is (inr e) = let both = sym is ∙ e in omega (arit
 none_base TooMany n best s is (inl e) = let both = sym is ∙ e in omega (arith, both)
 none_base TooMany n best s is (inr e) = let both = sym is ∙ e in omega (arith, both)
 
-pub none_over_of : (c : Settings) (left : List (List ℕ)) (torn : Option ℕ) (s : ℕ) → s ≡ (replayed c left torn).status → (s ≡ 0) ⊎ (s ≡ 2) → drops c.budget (packets_taken c left) ≡ 0
+pub none_over_of : (c : Settings) (left : List (List ℕ)) (torn : Option ℕ) (s : ℕ)
+    → s ≡ (replayed c left torn).status → (s ≡ 0) ⊎ (s ≡ 2) → drops c.budget (packets_taken c left) ≡ 0
 unfolding replayed
-none_over_of c left torn s is few = none_base (ending_of c.most left torn) (drops c.budget (packets_taken c left)) (installed_after c.budget (packets_taken c left)) s is few
+none_over_of c left torn s is few = none_base (ending_of c.most left torn)
+    (drops c.budget (packets_taken c left)) (installed_after c.budget (packets_taken c left)) s is few
 
 -- the outcome of a receiver that has taken the list is the list's
 pub outcome_is : (c : Settings) (left : List (List ℕ)) (torn : Option ℕ) (r : Receiver) (ending : Ending) (n : ℕ) (best : Option Shown)
-    → r.tsi ≡ c.tsi → r.budget ≡ c.budget → HasTaken r (take c.most left) → ending ≡ ending_of c.most left torn → n ≡ r.drops → best ≡ r.installed → outcome_of Log ending n best ≡ replayed c left torn
+    → r.tsi ≡ c.tsi → r.budget ≡ c.budget → HasTaken r (take c.most left) → ending ≡ ending_of c.most left torn
+    → n ≡ r.drops → best ≡ r.installed → outcome_of Log ending n best ≡ replayed c left torn
 unfolding replayed
 outcome_is c left torn r ending n best tsi budget has end count shown =
     let ps = packets_of c.tsi (take c.most left) in
     let dropped : n ≡ drops c.budget ps = count ∙ (has.drops ∙ (ap (λ t. drops r.budget (packets_of t (take c.most left))) tsi ∙ ap (λ b. drops b ps) budget)) in
-    let installed : best ≡ installed_after c.budget ps = shown ∙ (has.installed ∙ (ap (λ t. installed_after r.budget (packets_of t (take c.most left))) tsi ∙ ap (λ b. installed_after b ps) budget)) in
+    let installed : best ≡ installed_after c.budget ps = shown
+    ∙ (has.installed ∙ (ap (λ t. installed_after r.budget (packets_of t (take c.most left))) tsi ∙ ap (λ b. installed_after b ps) budget)) in
     ap (λ e. outcome_of Log e n best) end
     ∙ (ap (λ m. outcome_of Log (ending_of c.most left torn) m best) dropped
     ∙ ap (outcome_of Log (ending_of c.most left torn) (drops c.budget ps)) installed)

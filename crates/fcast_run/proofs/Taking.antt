@@ -22,7 +22,8 @@ use Rattle.receiver_core.specs.declared.taken.Taken.TheVariants as taken
 use Rattle.fcast_run.specs.Inner.HasTaken.{HasTaken}
 
 -- what is held, and how many packets were over the budget, after one packet more or none
-held_more : (budget : ℕ) (held : Held) (o : Option SymbolPacket) (ps : List SymbolPacket) → fold (step budget) held (cons_option o ps) ≡ fold (step budget) (held_with_packet budget held o) ps
+held_more : (budget : ℕ) (held : Held) (o : Option SymbolPacket) (ps : List SymbolPacket)
+    → fold (step budget) held (cons_option o ps) ≡ fold (step budget) (held_with_packet budget held o) ps
 held_more budget held None ps = refl
 held_more budget held (Some p) ps = refl
 
@@ -33,19 +34,22 @@ abbrev drops_packet : ℕ → Held → Option SymbolPacket → ℕ
 drops_packet budget held None = 0
 drops_packet budget held (Some p) = one_if (is_over_budget (verdict budget held p))
 
-drops_more : (budget : ℕ) (held : Held) (o : Option SymbolPacket) (ps : List SymbolPacket) → drops_from budget held (cons_option o ps) ≡ drops_packet budget held o + drops_from budget (held_with_packet budget held o) ps
+drops_more : (budget : ℕ) (held : Held) (o : Option SymbolPacket) (ps : List SymbolPacket)
+    → drops_from budget held (cons_option o ps) ≡ drops_packet budget held o + drops_from budget (held_with_packet budget held o) ps
 drops_more budget held None ps = omega arith
 drops_more budget held (Some p) ps = refl
 
 -- the same, at the end of a list of datagrams
-held_at_end : (tsi budget : ℕ) (held : Held) (ds : List (List ℕ)) (d : List ℕ) → fold (step budget) held (packets_of tsi (ds ++ d ∷ [])) ≡ held_with tsi budget (fold (step budget) held (packets_of tsi ds)) d
+held_at_end : (tsi budget : ℕ) (held : Held) (ds : List (List ℕ)) (d : List ℕ)
+    → fold (step budget) held (packets_of tsi (ds ++ d ∷ [])) ≡ held_with tsi budget (fold (step budget) held (packets_of tsi ds)) d
 held_at_end tsi budget held [] d = held_more budget held (packet_under tsi d) []
 held_at_end tsi budget held (e ∷ ds) d =
     held_more budget held (packet_under tsi e) (packets_of tsi (ds ++ d ∷ []))
     ∙ held_at_end tsi budget (held_with tsi budget held e) ds d
     ∙ ap (λ h. held_with tsi budget h d) (sym (held_more budget held (packet_under tsi e) (packets_of tsi ds)))
 
-drops_at_end : (tsi budget : ℕ) (held : Held) (ds : List (List ℕ)) (d : List ℕ) → drops_from budget held (packets_of tsi (ds ++ d ∷ [])) ≡ drops_from budget held (packets_of tsi ds) + drops_packet budget (fold (step budget) held (packets_of tsi ds)) (packet_under tsi d)
+drops_at_end : (tsi budget : ℕ) (held : Held) (ds : List (List ℕ)) (d : List ℕ) → drops_from budget held (packets_of tsi (ds ++ d ∷ []))
+    ≡ drops_from budget held (packets_of tsi ds) + drops_packet budget (fold (step budget) held (packets_of tsi ds)) (packet_under tsi d)
 drops_at_end tsi budget held [] d = let e = drops_more budget held (packet_under tsi d) [] in omega (arith, e)
 drops_at_end tsi budget held (e ∷ ds) d =
     let first = drops_more budget held (packet_under tsi e) (packets_of tsi (ds ++ d ∷ [])) in
@@ -55,7 +59,8 @@ drops_at_end tsi budget held (e ∷ ds) d =
     omega (arith, first, later, before, same)
 
 -- a datagram is counted as over the budget just where its packet is
-drop_of_packet : (b : Bool) (budget : ℕ) (held : Held) (p : SymbolPacket) → one_if (is_drop (if b then taken.Packet p.toi p.sbn p.esi (verdict budget held p) else taken.Elsewhere p.tsi)) ≡ drops_packet budget held (if b then Some p else None)
+drop_of_packet : (b : Bool) (budget : ℕ) (held : Held) (p : SymbolPacket)
+    → one_if (is_drop (if b then taken.Packet p.toi p.sbn p.esi (verdict budget held p) else taken.Elsewhere p.tsi)) ≡ drops_packet budget held (if b then Some p else None)
 drop_of_packet true budget held p = refl
 drop_of_packet false budget held p = refl
 
@@ -63,7 +68,8 @@ drop_of_control : (b : Bool) (t : ℕ) (close : Bool) → is_drop (if b then tak
 drop_of_control true t close = refl
 drop_of_control false t close = refl
 
-drop_of_reply : (tsi budget : ℕ) (held : Held) (r : Result Datagram Refusal) → one_if (is_drop (taken_reply tsi budget held r)) ≡ drops_packet budget held (packet_of_reply tsi r)
+drop_of_reply : (tsi budget : ℕ) (held : Held) (r : Result Datagram Refusal)
+    → one_if (is_drop (taken_reply tsi budget held r)) ≡ drops_packet budget held (packet_of_reply tsi r)
 drop_of_reply tsi budget held (Err refusal) = refl
 drop_of_reply tsi budget held (Ok (datagrams.Symbol p)) = drop_of_packet (p.tsi == tsi) budget held p
 drop_of_reply tsi budget held (Ok (datagrams.Control t close)) = ap one_if (drop_of_control (t == tsi) t close)
@@ -73,7 +79,8 @@ counted true drops few = omega arith
 counted false drops few = omega arith
 
 no_keys : keys nothing_held.objects ≡ []
-no_keys = nil_from_length (keys nothing_held.objects) (length-map (entries nothing_held.objects) (λ e. e.0) ∙ (sym (len-entries nothing_held.objects) ∙ len-empty nat_cmp ObjectInformation))
+no_keys = nil_from_length (keys nothing_held.objects) (length-map (entries nothing_held.objects) (λ e. e.0)
+    ∙ (sym (len-entries nothing_held.objects) ∙ len-empty nat_cmp ObjectInformation))
 
 -- nothing held comes to no instance
 best_of_nothing : best nothing_held ≡ None

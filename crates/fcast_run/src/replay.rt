@@ -24,13 +24,16 @@ pub fn replay<D: Datagrams, S: Shelf, T: Text>(
     requires { IsInRange settings.now }
     ensures base { IfOk result (λ s. is_base s ≡ true) }
     ensures status { D.told datagrams.old → IfOk result (λ s. s ≡ (replayed settings.now (D.left datagrams.old) (D.torn datagrams.old)).status) }
-    ensures text { D.told datagrams.old → T.told text.old → LeavesText result (replayed settings.now (D.left datagrams.old) (D.torn datagrams.old)).report (T.written text.old) (T.written text.new) }
+    ensures text { D.told datagrams.old → T.told text.old →
+        LeavesText result (replayed settings.now (D.left datagrams.old) (D.torn datagrams.old)).report (T.written text.old) (T.written text.new) }
     ensures unwritten { T.told text.old → OnErr result (T.written text.new ≡ T.written text.old) }
-    ensures shelf { D.told datagrams.old → S.told shelf.old → LeavesShelf result (replayed settings.now (D.left datagrams.old) (D.torn datagrams.old)).calls (S.holds shelf.old) (S.holds shelf.new) }
+    ensures shelf { D.told datagrams.old → S.told shelf.old →
+        LeavesShelf result (replayed settings.now (D.left datagrams.old) (D.torn datagrams.old)).calls (S.holds shelf.old) (S.holds shelf.new) }
     ensures apart { is_apart (status_of_answer result) ≡ true → shelf.new ≡ shelf.old }
     ensures left { D.told datagrams.old → AfterTaking result (D.left datagrams.new ≡ drop (settings.now.most + 1) (D.left datagrams.old)) }
     ensures place { AfterTaking result (D.connected datagrams.new ≡ Some Place.Log) }
-    ensures blames { Blames result (Rose (D.faults datagrams.old) (D.faults datagrams.new)) (Rose (T.faults text.old) (T.faults text.new)) (Rose (S.faults shelf.old) (S.faults shelf.new)) }
+    ensures blames { Blames result
+        (Rose (D.faults datagrams.old) (D.faults datagrams.new)) (Rose (T.faults text.old) (T.faults text.new)) (Rose (S.faults shelf.old) (S.faults shelf.new)) }
 {
     let gathered = gather(alloc, settings, datagrams)?;
     let receiver = &gathered.receiver;

@@ -1,5 +1,6 @@
 -- Words of the right shape, as pairs whose names have no dashes.
-use Rattle.std.proofs.Common.{◌≡◌, ◌&&◌, ◌||◌, ◌==◌, ℕ, Bool, true, false, not, cond, List, [], ◌∷◌, ◌++◌, map, length, drop, nat_lt, Option, Some, None, refl, sym, ap, ap₂, subst, ◌∙◌, arith, option_map}
+use Rattle.std.proofs.Common.{◌≡◌, ◌&&◌, ◌||◌, ◌==◌, ℕ, Bool, true, false, not, cond, List, [], ◌∷◌, ◌++◌, map, length, drop}
+use Rattle.std.proofs.Common.{nat_lt, Option, Some, None, refl, sym, ap, ap₂, subst, ◌∙◌, arith, option_map}
 use Rattle.std.specs.Prelude.{unwrap_or, find}
 use Rattle.std.specs.List.{list_all, list_any, before_first, after_first, position_or_len}
 use Rattle.std.specs.Option.{option_map_or}
@@ -118,7 +119,8 @@ once_dashed (b ∷ bs) = ap₂ (λ among once. not among && once) (among b.0 bs)
 abbrev no_rows : List Row → Pairs → Bool
 no_rows rows ps = list_all (λ p. not (has_row p.0 rows)) ps
 
-no_rows_more : (rows : List Row) (p : Text × Text) (ps : Pairs) → no_rows rows ps ≡ true → is_among p.0 (map (λ q. q.0) ps) ≡ false → no_rows (rows ++ row p ∷ []) ps ≡ true
+no_rows_more : (rows : List Row) (p : Text × Text) (ps : Pairs) → no_rows rows ps ≡ true
+    → is_among p.0 (map (λ q. q.0) ps) ≡ false → no_rows (rows ++ row p ∷ []) ps ≡ true
 no_rows_more rows p [] none e = refl
 no_rows_more rows p (q ∷ ps) none e =
     let parts = and_parts (not (has_row q.0 rows)) (no_rows rows ps) none in
@@ -126,7 +128,8 @@ no_rows_more rows p (q ∷ ps) none e =
     let fresh : has_row q.0 (rows ++ row p ∷ []) ≡ false =
     list_any-append (λ r. bytes_eq r.id q.0) rows (row p ∷ [])
     ∙ or_from (has_row q.0 rows) (bytes_eq p.0 q.0 || false) (not-true (has_row q.0 rows) parts.0) (or_from (bytes_eq p.0 q.0) false (other_text q.0 p.0 other.0) refl) in
-    and_from (not (has_row q.0 (rows ++ row p ∷ []))) (no_rows (rows ++ row p ∷ []) ps) (not_from_false (has_row q.0 (rows ++ row p ∷ [])) fresh) (no_rows_more rows p ps parts.1 other.1)
+    and_from (not (has_row q.0 (rows ++ row p ∷ []))) (no_rows (rows ++ row p ∷ []) ps)
+    (not_from_false (has_row q.0 (rows ++ row p ∷ [])) fresh) (no_rows_more rows p ps parts.1 other.1)
 
 new_from_once : (ps : Pairs) (rows : List Row) → no_rows rows ps ≡ true → is_once (map (λ p. p.0) ps) ≡ true → AreNew rows ps
 new_from_once [] rows none once = tt
@@ -147,7 +150,8 @@ and_true : (b : Bool) → (b && true) ≡ b
 and_true true = refl
 and_true false = refl
 
-known_map : (names : List Text) (bs : Pairs) → shaped (map dash bs) ≡ true → list_all (λ p. is_among p.0 (map dashed names) && is_value p.1) (map dash bs) ≡ are_known names bs
+known_map : (names : List Text) (bs : Pairs) → shaped (map dash bs) ≡ true
+    → list_all (λ p. is_among p.0 (map dashed names) && is_value p.1) (map dash bs) ≡ are_known names bs
 known_map names [] all = refl
 known_map names (b ∷ bs) all =
     let parts = and_parts (is_name (dashed b.0) && is_value b.1) (shaped (map dash bs)) all in
@@ -178,7 +182,8 @@ bare words e = by (pairs_of words) refl e
     of ps is e =
         let parts = and_parts (shaped ps) (is_once (map (λ p. p.0) ps)) e in
         let again = dashed_again ps parts.0 in
-        let once : is_once (map (λ p. p.0) (map undash ps)) ≡ true = sym (once_dashed (map undash ps)) ∙ ap (λ (qs : Pairs). is_once (map (λ p. p.0) qs)) again ∙ parts.1 in
+        let once : is_once (map (λ p. p.0) (map undash ps)) ≡ true = sym (once_dashed (map undash ps))
+        ∙ ap (λ (qs : Pairs). is_once (map (λ p. p.0) qs)) again ∙ parts.1 in
         record {
           spelled = words_are words ps is parts.0;
           pairs = pairs_shaped ps parts.0;
@@ -186,7 +191,8 @@ bare words e = by (pairs_of words) refl e
           mapped = λ names.
               let known = known_map names (map undash ps) (ap shaped again ∙ parts.0) in
               let all = ap (λ qs. list_all (λ (p : Text × Text). is_among p.0 (map dashed names) && is_value p.1) qs) (sym again) ∙ known in
-              let mapped : is_map (map dashed names) ps ≡ are_known names (map undash ps) = ap₂ (λ a b. a && b) all parts.1 ∙ and_true (are_known names (map undash ps)) in
+              let mapped : is_map (map dashed names) ps ≡ are_known names (map undash ps) =
+              ap₂ (λ a b. a && b) all parts.1 ∙ and_true (are_known names (map undash ps)) in
               rw (is, mapped, again) refl;
         }
 

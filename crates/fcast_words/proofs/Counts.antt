@@ -1,5 +1,6 @@
 -- A map has no more pairs than it has options.
-use Rattle.std.proofs.Common.{◌≡◌, ◌<◌, ◌≤◌, ◌+◌, ◌*◌, ◌&&◌, ◌||◌, Bool, true, false, not, cond, List, [], ◌∷◌, map, length, Option, Some, None, refl, sym, ap, subst, ◌∙◌, arith, option_map}
+use Rattle.std.proofs.Common.{◌≡◌, ◌<◌, ◌≤◌, ◌+◌, ◌*◌, ◌&&◌, ◌||◌, Bool, true, false, not, cond, List, [], ◌∷◌, map, length}
+use Rattle.std.proofs.Common.{Option, Some, None, refl, sym, ap, subst, ◌∙◌, arith, option_map}
 use Rattle.std.specs.Prelude.{option_and_then, unwrap_or}
 use Rattle.std.specs.List.{list_all}
 use Rattle.std.specs.Str.{bytes_eq}
@@ -33,12 +34,14 @@ still n k (m ∷ options) other e = by (bytes_eq m n) refl (bytes_eq m k) refl e
     by false is true is' e later = rw is' refl
     by false is false is' e later = rw is' (later e)
 
-all_still : (n : Text) (ns options : List Text) → is_among n ns ≡ false → list_all (λ k. is_among k options) ns ≡ true → list_all (λ k. is_among k (without n options)) ns ≡ true
+all_still : (n : Text) (ns options : List Text) → is_among n ns ≡ false
+    → list_all (λ k. is_among k options) ns ≡ true → list_all (λ k. is_among k (without n options)) ns ≡ true
 all_still n [] options new all = refl
 all_still n (k ∷ ns) options new all =
     let parts = and_parts (is_among k options) (list_all (λ j. is_among j options) ns) all in
     let others = or_parts (bytes_eq k n) (is_among n ns) new in
-    and_from (is_among k (without n options)) (list_all (λ j. is_among j (without n options)) ns) (still n k options others.0 parts.0) (all_still n ns options others.1 parts.1)
+    and_from (is_among k (without n options)) (list_all (λ j. is_among j (without n options)) ns)
+    (still n k options others.0 parts.0) (all_still n ns options others.1 parts.1)
 
 -- names that stand once, all of them options, are no more than the options
 no_more : (ns options : List Text) → is_once ns ≡ true → list_all (λ k. is_among k options) ns ≡ true → length ns ≤ length options
@@ -49,11 +52,13 @@ no_more (n ∷ ns) options once all =
     let parts = and_parts (is_among n options) (list_all (λ k. is_among k options) ns) all in
     omega (arith, one_less n options parts.0, no_more ns (without n options) first.1 (all_still n ns options new parts.1))
 
-names_among : (options : List Text) (ps : Pairs) → list_all (λ (p : Text × Text). is_among p.0 options && is_value p.1) ps ≡ true → list_all (λ k. is_among k options) (map (λ p. p.0) ps) ≡ true
+names_among : (options : List Text) (ps : Pairs) → list_all (λ (p : Text × Text). is_among p.0 options && is_value p.1) ps ≡ true
+    → list_all (λ k. is_among k options) (map (λ p. p.0) ps) ≡ true
 names_among options [] e = refl
 names_among options (p ∷ ps) e =
     let parts = and_parts (is_among p.0 options && is_value p.1) (list_all (λ (p : Text × Text). is_among p.0 options && is_value p.1) ps) e in
-    and_from (is_among p.0 options) (list_all (λ k. is_among k options) (map (λ p. p.0) ps)) (and_parts (is_among p.0 options) (is_value p.1) parts.0).0 (names_among options ps parts.1)
+    and_from (is_among p.0 options) (list_all (λ k. is_among k options) (map (λ p. p.0) ps))
+    (and_parts (is_among p.0 options) (is_value p.1) parts.0).0 (names_among options ps parts.1)
 
 two_each : (words : List Text) (ps : Pairs) → pairs_of words ≡ Some ps → length words ≡ 2 * length (map (λ p. p.0) ps)
 two_each [] ps e = ap (λ (o : Option Pairs). 2 * length (map (λ p. p.0) (unwrap_or o []))) e

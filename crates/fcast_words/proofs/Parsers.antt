@@ -1,5 +1,6 @@
 -- The parser of a command, as `clap` builds it.
-use Rattle.std.proofs.Common.{◌≡◌, ◌&&◌, ◌||◌, ◌+◌, ◌<◌, ℕ, Bool, true, false, not, cond, List, [], ◌∷◌, ◌++◌, map, length, take, get_or, Some, None, is_some, refl, ap, ◌∙◌, count_by}
+use Rattle.std.proofs.Common.{◌≡◌, ◌&&◌, ◌||◌, ◌+◌, ◌<◌, ℕ, Bool, true, false, not, cond, List, [], ◌∷◌, ◌++◌, map, length, take}
+use Rattle.std.proofs.Common.{get_or, Some, None, is_some, refl, ap, ◌∙◌, count_by}
 use Rattle.std.specs.List.{list_all, list_any, fold}
 use Rattle.std.specs.Str.{bytes_eq}
 use Rattle.std.specs.Borrow.{Bor}
@@ -54,7 +55,13 @@ none_early k [] = refl
 none_early k (n ∷ names) = none_early k names
 
 pub app_free : (name : Text) (names : List Text) → is_simple_and_free (options_app name names) ≡ true
-app_free name names = rw (all_simple names, filled_all 1 names, built_simple names, none_early (count_by (λ (a : Rule). is_some a.index) (map built_option names)) names, all_free names) refl
+app_free name names = rw (
+  all_simple names,
+  filled_all 1 names,
+  built_simple names,
+  none_early (count_by (λ (a : Rule). is_some a.index) (map built_option names)) names,
+  all_free names,
+) refl
 
 -- ---- its faults are those of one level
 
@@ -67,11 +74,14 @@ pub app_matches : (name : Text) (names words : List Text) → matches_of (option
 app_matches name names words = ap (λ rules. rows_after rules [] words) (filled_all 1 names)
 
 -- one more option
-pub option_added : (app : App) (name : Text) (options : List (Bor Text)) (i : ℕ) (d : Bor Text) → i < length options → app ≡ options_app name (map (λ s. s.now) (take i options))
+pub option_added : (app : App) (name : Text) (options : List (Bor Text)) (i : ℕ) (d : Bor Text)
+    → i < length options → app ≡ options_app name (map (λ s. s.now) (take i options))
     → with_rule app (option_rule (get_or options i d).now) ≡ options_app name (map (λ s. s.now) (take (i + 1) options))
 option_added app name options i d fits is =
-    let more : map option_rule (map (λ (s : Bor Text). s.now) (take (i + 1) options)) ≡ map option_rule (map (λ s. s.now) (take i options)) ++ option_rule (get_or options i d).now ∷ [] =
-    ap (map option_rule) (map_more (λ (s : Bor Text). s.now) options i d fits) ∙ map-append option_rule (map (λ (s : Bor Text). s.now) (take i options)) ((get_or options i d).now ∷ []) in
+    let more : map option_rule (map (λ (s : Bor Text). s.now) (take (i + 1) options))
+    ≡ map option_rule (map (λ s. s.now) (take i options)) ++ option_rule (get_or options i d).now ∷ [] =
+    ap (map option_rule) (map_more (λ (s : Bor Text). s.now) options i d fits)
+    ∙ map-append option_rule (map (λ (s : Bor Text). s.now) (take i options)) ((get_or options i d).now ∷ []) in
     ap (λ a. with_rule a (option_rule (get_or options i d).now)) is ∙ rw more refl
 
 -- ---- searches among the options

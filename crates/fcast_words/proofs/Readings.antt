@@ -27,7 +27,8 @@ module _ (name : Text) (names words : List Text) (app : App) (is : app ≡ optio
       ∙ ap (λ ws. level_fault (built_shape name names) [] nothing_held ws false []) b.spelled ∙ level_faults name names bs b.pairs b.new
 
   -- without a fault the words are a map, and its values were found
-  pub values_read : (m : ArgMatches) → has_shape words ≡ true → (is_simple_and_free app ≡ true → fault_of app words ≡ []) → HasMatchesOf app words m → HasValues names words m
+  pub values_read : (m : ArgMatches) → has_shape words ≡ true
+      → (is_simple_and_free app ≡ true → fault_of app words ≡ []) → HasMatchesOf app words m → HasValues names words m
   values_read m shape none matches =
       let b = bare words shape in
       by b.0 b.1 (are_known names b.0) refl (sym (faults b.0 b.1) ∙ none free)

@@ -1,5 +1,6 @@
 -- Steps of the loops over words.
-use Rattle.std.proofs.Common.{◌≡◌, ◌<◌, ◌≤◌, ◌+◌, ◌-◌, ◌&&◌, ℕ, suc, Bool, true, false, List, [], ◌∷◌, length, take, drop, get_or, refl, ap, ◌∙◌, arith, drop-cons, add-one, drop_of_length-le}
+use Rattle.std.proofs.Common.{◌≡◌, ◌<◌, ◌≤◌, ◌+◌, ◌-◌, ◌&&◌, ℕ, suc, Bool, true, false, List, [], ◌∷◌, length, take, drop, get_or}
+use Rattle.std.proofs.Common.{refl, ap, ◌∙◌, arith, drop-cons, add-one, drop_of_length-le}
 use Rattle.std.specs.Str.{bytes_eq}
 use Rattle.std.proofs.lemmas.List.{take_all, length-drop}
 use Rattle.fcast_words.specs.Pairs.{Text, is_value}

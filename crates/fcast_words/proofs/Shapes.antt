@@ -49,7 +49,8 @@ scan_is (n ∷ v ∷ rest) = by (pairs_of rest) refl (scan_is rest)
         → (is_name n && (is_value v && (not (has_name n rest) && scan rest))) ≡ option_map_or are_shaped (option_map (λ qs. (n, v) ∷ qs) o) false
     by None is later = rw (later, is) (nowhere (is_name n) (is_value v) (not (has_name n rest)))
     by (Some qs) is later = rw (later, is, names_are n rest qs is)
-        (regrouped (is_name n) (is_value v) (is_among n (map (λ p. p.0) qs)) (list_all (λ (p : Text × Text). is_name p.0 && is_value p.1) qs) (is_once (map (λ p. p.0) qs)))
+        (regrouped (is_name n) (is_value v) (is_among n (map (λ p. p.0) qs))
+        (list_all (λ (p : Text × Text). is_name p.0 && is_value p.1) qs) (is_once (map (λ p. p.0) qs)))
 
 -- ---- maps
 

@@ -5,7 +5,8 @@ use Rattle.std.specs.List.{list_all, fold}
 use Rattle.std.specs.Str.{bytes_eq}
 use Rattle.std.proofs.lemmas.Bool.{and_parts}
 use Rattle.clap.specs.Lexer.{long_of, short_of}
-use Rattle.clap.specs.Walk.{Row, Rule, Waiting, Walk, idle, option, at_row, with_values, has_row, more_values, settled_rows, walked, with_default, nothing_held, rows_after, first_of}
+use Rattle.clap.specs.Walk.{Row, Rule, Waiting, Walk, idle, option, at_row, with_values, has_row, more_values, settled_rows}
+use Rattle.clap.specs.Walk.{walked, with_default, nothing_held, rows_after, first_of}
 use Rattle.clap.specs.Simple.{Shape}
 use Rattle.clap.specs.Kinds.{Kinds, or_else}
 use Rattle.clap.specs.Faults.{level_fault, settle_fault, turn_fault, walk_fault, defaults_fault, check_fault}
@@ -89,7 +90,8 @@ module _ (name : Text) (names : List Text) where
   abbrev s : Shape
   s = built_shape name names
 
-  module _ (rows : List Row) (pending : Option (Text × List Text)) (n word : Text) (long : long_of word ≡ Some (n, None)) (dashes : bytes_eq word (45 ∷ 45 ∷ []) ≡ false) where
+  module _ (rows : List Row) (pending : Option (Text × List Text)) (n word : Text)
+      (long : long_of word ≡ Some (n, None)) (dashes : bytes_eq word (45 ∷ 45 ∷ []) ≡ false) where
     name_step : is_among n names ≡ true → walked c [] (at rows pending idle) word ≡ at (settled_rows c pending rows) (Some (n, [])) (option n)
     unfolding walked
     name_step known = rw (dashes, long, by_long n names, known) refl
@@ -146,7 +148,8 @@ module _ (name : Text) (names : List Text) where
     known_pair rest settled =
         let named = name_turn rows pending p.0 (dashed p.0) pair.name_long pair.name_dashes known settled in
         two_words (at rows pending idle) (dashed p.0) p.1 rest
-        ∙ (λ i. or_else (or_else (named i) (or_else (value_passed i) (walk_fault s [] (pair_walked i) rest))) (settle_fault c false (fold (walked c []) (pair_walked i) rest).held))
+        ∙ (λ i. or_else (or_else (named i) (or_else (value_passed i) (walk_fault s [] (pair_walked i) rest)))
+        (settle_fault c false (fold (walked c []) (pair_walked i) rest).held))
 
   unknown_pair : (rows : List Row) (pending : Option (Text × List Text)) (p : Text × Text) (rest : List Text) → IsPair p → is_among p.0 names ≡ false
       → from_here (at rows pending idle) (dashed p.0 ∷ p.1 ∷ rest) ≡ UnknownArgument ∷ []
@@ -162,7 +165,8 @@ module _ (name : Text) (names : List Text) where
       → from_here (at rows (Some (n, v ∷ [])) idle) (words_of ps) ≡ verdict (are_known names ps)
   unfolding walk_fault
   later_faults [] rows n v known new pairs others = pending_fault rows n v known new
-  later_faults (p ∷ ps) rows n v known new pairs others = by (is_among p.0 names) refl (λ is. later_faults ps (rows ++ row (n, v) ∷ []) p.0 p.1 is others.0 pairs.1 others.1)
+  later_faults (p ∷ ps) rows n v known new pairs others =
+      by (is_among p.0 names) refl (λ is. later_faults ps (rows ++ row (n, v) ∷ []) p.0 p.1 is others.0 pairs.1 others.1)
     where
       by : (is : Bool) → is_among p.0 names ≡ is
           → (is_among p.0 names ≡ true → from_here (at (rows ++ row (n, v) ∷ []) (Some (p.0, p.1 ∷ [])) idle) (words_of ps) ≡ verdict (are_known names ps))
@@ -200,7 +204,8 @@ module _ (name : Text) (names : List Text) where
   abbrev end_rows : Walk → List Row
   end_rows w = settled_rows c w.held.pending w.held.rows
 
-  later_rows : (ps : Pairs) (rows : List Row) (n v : Text) → is_among n names ≡ true → has_row n rows ≡ false → ArePairs ps → AreNew (rows ++ row (n, v) ∷ []) ps → are_known names ps ≡ true
+  later_rows : (ps : Pairs) (rows : List Row) (n v : Text) → is_among n names ≡ true
+      → has_row n rows ≡ false → ArePairs ps → AreNew (rows ++ row (n, v) ∷ []) ps → are_known names ps ≡ true
       → end_rows (fold (walked c []) (at rows (Some (n, v ∷ [])) idle) (words_of ps)) ≡ rows ++ row (n, v) ∷ map row ps
   later_rows [] rows n v known new pairs others all = settled_new rows n v known new
   later_rows (p ∷ ps) rows n v known new pairs others all =

@@ -1,5 +1,6 @@
 -- The product of elements: from what `Tables` tests, the laws of a field.
-use Rattle.std.proofs.Common.{◌≡◌, ◌≢◌, ◌⊎◌, ℕ, zero, suc, ◌<◌, ◌/◌, ◌%◌, Bool, true, false, cond, ◌||◌, eqb, ltb, refl, sym, ap, ap₂, ◌∙◌, inl, inr, ⊎_elim, arith, eqb-true, ltb-true}
+use Rattle.std.proofs.Common.{◌≡◌, ◌≢◌, ◌⊎◌, ℕ, zero, suc, ◌<◌, ◌/◌, ◌%◌, Bool, true, false, cond, ◌||◌, eqb, ltb, refl, sym, ap}
+use Rattle.std.proofs.Common.{ap₂, ◌∙◌, inl, inr, ⊎_elim, arith, eqb-true, ltb-true}
 use Rattle.std.specs.Prelude.{bit_xor}
 use Rattle.std.proofs.lemmas.Bool.{or_cases, cases_eq}
 use Rattle.gf256.specs.Field.{double, product, product_of, squares, inverse}

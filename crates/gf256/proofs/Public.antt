@@ -2,7 +2,9 @@
 unfoldable pub use Rattle.gf256.proofs.Finite.{each_below}
 pub use Rattle.gf256.proofs.Finite.{passes_at}
 pub use Rattle.gf256.proofs.Sums.{sum_lt, sum_swap, sum_twice, equal_from_sum}
-pub use Rattle.gf256.proofs.Products.{product_lt, product_comm, product_assoc, product_sum, sum_product, product_one, one_product, product_zero, zero_product, product_inverse, product_cancel, inverse_lt, inverse_unique, product_some, no_divisors, product_double, double_product, double_lt, double_sum}
+pub use Rattle.gf256.proofs.Products.{product_lt, product_comm, product_assoc, product_sum, sum_product, product_one, one_product}
+pub use Rattle.gf256.proofs.Products.{product_zero, zero_product, product_inverse, product_cancel, inverse_lt, inverse_unique}
+pub use Rattle.gf256.proofs.Products.{product_some, no_divisors, product_double, double_product, double_lt, double_sum}
 pub use Rattle.gf256.proofs.Powers.{power_lt, power_some, power_add, power_mod, power_injective}
 pub use Rattle.gf256.proofs.RowSteps.{get_or-added_row}
 unfoldable pub use Rattle.gf256.proofs.Horner.{horner}

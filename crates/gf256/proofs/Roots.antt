@@ -95,7 +95,8 @@ AreZeros : List ℕ → List ℕ → Type 0
 AreZeros cs rs = All (λ r. horner cs r ≡ 0) rs
 
 -- the other roots are roots of the quotient
-zeros_left : (cs : List ℕ) (r : ℕ) (rs : List ℕ) → r < 256 → AreBytes cs → AreBytes rs → All (λ s. r ≢ s) rs → horner cs r ≡ 0 → AreZeros cs rs → AreZeros (quotient r cs) rs
+zeros_left : (cs : List ℕ) (r : ℕ) (rs : List ℕ) → r < 256 → AreBytes cs → AreBytes rs
+    → All (λ s. r ≢ s) rs → horner cs r ≡ 0 → AreZeros cs rs → AreZeros (quotient r cs) rs
 unfolding AreZeros
 zeros_left cs r rs lr bytes brs apart root zeros k d less =
     root_left cs r (get_or rs k d) lr (brs k d less) bytes (λ e. apart k d less (sym e)) root (zeros k d less)
@@ -143,7 +144,8 @@ equal_of_null (c ∷ cs) (d ∷ ds) bytes same null =
     ap₂ (λ x xs. x ∷ xs) first (equal_of_null cs ds (tail_bytes c cs bytes) (omega arith) (All-tail (λ c. c ≡ 0) _ _ null))
 
 -- two polynomials of k coefficients that agree at k different elements are equal
-pub equal_where_agree : (cs ds rs : List ℕ) → AreBytes cs → AreBytes ds → AreBytes rs → length cs ≡ length ds → length rs ≡ length cs → AreDifferent rs → Agree cs ds rs → cs ≡ ds
+pub equal_where_agree : (cs ds rs : List ℕ) → AreBytes cs → AreBytes ds → AreBytes rs
+    → length cs ≡ length ds → length rs ≡ length cs → AreDifferent rs → Agree cs ds rs → cs ≡ ds
 equal_where_agree cs ds rs bc bd br same many apart agree =
     let len : length (added_row 1 cs ds) ≡ length ds = length-added_row 1 cs ds in
     let roots : AreRoots (added_row 1 cs ds) rs =

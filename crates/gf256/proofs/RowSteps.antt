@@ -32,7 +32,8 @@ added_row_front by (suc n) (s ∷ src) (d ∷ dst) ls ld = ap (λ xs. bit_xor d 
 
 -- n more elements added at once
 pub added_row_chunk : (by k n m : ℕ) (src dst : List ℕ) → m ≡ k + n → m ≤ length src → m ≤ length dst
-    → put_chunk k (added_row by (take k src) dst) (zip2 bit_xor (chunk k n (added_row by (take k src) dst)) (map (product by) (chunk k n src))) ≡ added_row by (take m src) dst
+    → put_chunk k (added_row by (take k src) dst)
+    (zip2 bit_xor (chunk k n (added_row by (take k src) dst)) (map (product by) (chunk k n src))) ≡ added_row by (take m src) dst
 added_row_chunk by zero n m src dst is ls ld =
     let same : n ≡ m = omega arith in added_row_front by n src dst (omega arith) (omega arith) ∙ ap (λ a. added_row by (take a src) dst) same
 added_row_chunk by (suc k) n m [] dst is ls ld = absurd (omega arith)

@@ -94,7 +94,8 @@ pub fn distinct_powers()
 
 /// The value of a sum of polynomials of one length, the first of them taken `by` times.
 pub fn value_of_sum()
-    ensures { (by x : ℕ) (cs ds : List ℕ) → IsByte by → IsByte x → AreBytes cs → AreBytes ds → length cs ≡ length ds → value (added_row by cs ds) x ≡ bit_xor (value ds x) (product by (value cs x)) }
+    ensures { (by x : ℕ) (cs ds : List ℕ) → IsByte by → IsByte x → AreBytes cs → AreBytes ds → length cs ≡ length ds →
+        value (added_row by cs ds) x ≡ bit_xor (value ds x) (product by (value cs x)) }
 {}
 
 /// A polynomial that is not zero has fewer roots than coefficients.

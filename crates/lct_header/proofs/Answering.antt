@@ -1,5 +1,6 @@
 -- The one answer for each list of bytes.
-use Rattle.std.proofs.Common.{◌≡◌, ℕ, ◌+◌, ◌-◌, ◌*◌, ◌<◌, ◌≤◌, true, false, eqb, ltb, List, [], ◌∷◌, ◌++◌, length, None, Result, Ok, Err, refl, sym, ap, subst, ◌∙◌, arith, inl, inr, ◌⊎◌}
+use Rattle.std.proofs.Common.{◌≡◌, ℕ, ◌+◌, ◌-◌, ◌*◌, ◌<◌, ◌≤◌, true, false, eqb, ltb, List, [], ◌∷◌, ◌++◌, length, None, Result}
+use Rattle.std.proofs.Common.{Ok, Err, refl, sym, ap, subst, ◌∙◌, arith, inl, inr, ◌⊎◌}
 use Rattle.std.specs.Prelude.{◌||◌, IfOk, IfErr}
 use Rattle.std.proofs.lemmas.Bool.{ne_eqb, eq-eqb, lt-ltb, le-ltb, or_left, or_right, or_from}
 use Rattle.std.proofs.lemmas.List.{append-nil, length-append}
@@ -39,14 +40,17 @@ past_layout bytes w tsi toi area rest laid =
     past_word bytes is.layout.long is.layout.first ∙ ap (answer_of bytes) is.word_is ∙ rw (right, is.tsi_is, is.toi_is, is.area_is) refl
 
 -- a view by its parts
-made : (v : HeaderView) (header : Header) (n : ℕ) → header ≡ v.header → n ≡ v.length → ◌≡◌ {A = Result HeaderView HeaderFault} (Ok (record { header = header; length = n; area = v.area })) (Ok v)
+made : (v : HeaderView) (header : Header) (n : ℕ) → header ≡ v.header → n ≡ v.length
+    → ◌≡◌ {A = Result HeaderView HeaderFault} (Ok (record { header = header; length = n; area = v.area })) (Ok v)
 made v header n a b = rw (a, b) refl
 
 -- a header that begins the bytes is the answer
 pub answer_view : (bytes : List ℕ) (v : HeaderView) → StartsWithHeader bytes v → answer bytes ≡ Ok v
 answer_view bytes v (rest, is) =
-    let stops : split (length v.area) (v.area ++ []) ≡ (is.extensions.0, []) = split-area (length v.area) is.extensions.0 v.area [] (omega (arith, length-append v.area [])) is.extensions.1 refl in
-    let none : (split (length v.area) v.area).1 ≡ [] = ap (λ (xs : List ℕ). (split (length v.area) xs).1) (sym (append-nil v.area)) ∙ ap (λ (p : List Extension × List ℕ). p.1) stops in
+    let stops : split (length v.area) (v.area ++ []) ≡ (is.extensions.0, []) =
+    split-area (length v.area) is.extensions.0 v.area [] (omega (arith, length-append v.area [])) is.extensions.1 refl in
+    let none : (split (length v.area) v.area).1 ≡ [] = ap (λ (xs : List ℕ). (split (length v.area) xs).1)
+    (sym (append-nil v.area)) ∙ ap (λ (p : List Extension × List ℕ). p.1) stops in
     past_layout bytes is.word is.tsi is.toi v.area rest is.layout
     ∙ ap (stop_at _ _) none
     ∙ made v (header_of is.word is.tsi is.toi) (4 * is.word.words) (sym is.header) (sym is.length)
@@ -92,7 +96,8 @@ stops : (area : List ℕ) (start at : ℕ) (IsFaulty : List ℕ → Type 0) → 
     → ((split (length area) area).1 ≡ is.faulty) × (start + length area - length is.faulty ≡ at)
 stops area start at IsFaulty never is =
     let len : length area ≡ length is.front + length is.faulty = ap length is.joined ∙ length-append is.front is.faulty in
-    let same : split (length area) (is.front ++ is.faulty) ≡ (is.before, is.faulty) = split-area (length area) is.before is.front is.faulty (omega (arith, length-append is.front is.faulty)) is.extensions (never is.faulty is.fault) in
+    let same : split (length area) (is.front ++ is.faulty) ≡ (is.before, is.faulty) = split-area (length area) is.before
+    is.front is.faulty (omega (arith, length-append is.front is.faulty)) is.extensions (never is.faulty is.fault) in
     (ap (λ (xs : List ℕ). (split (length area) xs).1) is.joined ∙ ap (λ (p : List Extension × List ℕ). p.1) same, omega (arith, is.place))
 
 -- the answer at an extension of no length
@@ -130,7 +135,8 @@ answer_fault bytes (ExtensionLong at) is =
 -- ---- laws
 
 -- what is found or refused is the answer
-pub the_answer : (bytes : List ℕ) (r : Result HeaderView HeaderFault) → IfOk r (λ v. StartsWithHeader bytes v) → IfErr r (λ fault. IsFirstFault bytes fault) → r ≡ answer bytes
+pub the_answer : (bytes : List ℕ) (r : Result HeaderView HeaderFault)
+    → IfOk r (λ v. StartsWithHeader bytes v) → IfErr r (λ fault. IsFirstFault bytes fault) → r ≡ answer bytes
 the_answer bytes (Ok v) starts refused = sym (answer_view bytes v starts)
 the_answer bytes (Err fault) starts refused = sym (answer_fault bytes fault refused)
 

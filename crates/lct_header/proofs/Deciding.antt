@@ -1,5 +1,7 @@
 -- Each list of bytes begins with a header or has a first fault.
-use Rattle.std.proofs.Common.{◌≡◌, ℕ, zero, suc, ◌+◌, ◌-◌, ◌*◌, ◌%◌, ◌<◌, ◌≤◌, Bool, true, false, cond, eqb, ltb, List, [], ◌∷◌, ◌++◌, length, take, drop, Option, Some, None, refl, sym, ap, subst, ◌∙◌, append_assoc, arith, inl, inr, ◌⊎◌}
+use Rattle.std.proofs.Common.{◌≡◌, ℕ, zero, suc, ◌+◌, ◌-◌, ◌*◌, ◌%◌, ◌<◌, ◌≤◌, Bool, true, false, cond, eqb, ltb, List, [], ◌∷◌}
+use Rattle.std.proofs.Common.{◌++◌, length, take, drop, Option, Some, None, refl, sym, ap, subst, ◌∙◌, append_assoc, arith, inl}
+use Rattle.std.proofs.Common.{inr, ◌⊎◌}
 use Rattle.std.proofs.lemmas.Bool.{cases_lt, cases_eq, eqb-true, ltb-true, or_cases}
 use Rattle.std.proofs.lemmas.List.{length-append}
 use Rattle.wire_bytes.specs.Bytes.{AreBytes}
@@ -28,7 +30,8 @@ guard_none false x e = absurd cc
 
 -- where no extension begins whole words, the first one there has no length or passes the end
 none_on : (b : Bool) (het hel : ℕ) (bytes : List ℕ) → ltb het 128 ≡ b → length (het ∷ hel ∷ bytes) % 4 ≡ 0
-    → cond b (measured het (hel ∷ bytes)) (cond (ltb (length (hel ∷ bytes)) 3) None (Some (record { het = het; content = take 3 (hel ∷ bytes) }, drop 3 (hel ∷ bytes)))) ≡ None
+    → cond b (measured het (hel ∷ bytes))
+    (cond (ltb (length (hel ∷ bytes)) 3) None (Some (record { het = het; content = take 3 (hel ∷ bytes) }, drop 3 (hel ∷ bytes)))) ≡ None
     → HasNoLength (het ∷ hel ∷ bytes) ⊎ PassesEnd (het ∷ hel ∷ bytes)
 none_on true het hel bytes low words none =
     let low_is : het < 128 = ltb-true het 128 low in
@@ -46,7 +49,8 @@ none_first (het ∷ []) some words none = absurd (omega arith)
 none_first (het ∷ hel ∷ bytes) some words none = none_on (ltb het 128) het hel bytes refl words none
 
 -- a fault of the other extensions, behind a first one
-stops_later : (first others : List ℕ) (e : Extension) (start at : ℕ) (IsFaulty : List ℕ → Type 0) → IsExtension first e → StopsAt others (start + length first) at IsFaulty → StopsAt (first ++ others) start at IsFaulty
+stops_later : (first others : List ℕ) (e : Extension) (start at : ℕ) (IsFaulty : List ℕ → Type 0)
+    → IsExtension first e → StopsAt others (start + length first) at IsFaulty → StopsAt (first ++ others) start at IsFaulty
 stops_later first others e start at IsFaulty is stops = record {
   before = e ∷ stops.before;
   front = first ++ stops.front;
@@ -57,7 +61,8 @@ stops_later first others e start at IsFaulty is stops = record {
   fault = stops.fault;
 }
 
-fault_later : (first others : List ℕ) (e : Extension) (start : ℕ) (fault : HeaderFault) → IsExtension first e → IsAreaFault others (start + length first) fault → IsAreaFault (first ++ others) start fault
+fault_later : (first others : List ℕ) (e : Extension) (start : ℕ) (fault : HeaderFault) → IsExtension first e
+    → IsAreaFault others (start + length first) fault → IsAreaFault (first ++ others) start fault
 fault_later first others e start Short is fault = absurd fault
 fault_later first others e start Version is fault = absurd fault
 fault_later first others e start LengthField is fault = absurd fault
@@ -78,7 +83,10 @@ with_first first others e start is rest = elim rest [
 -- of what no extension begins
 with_none : (area : List ℕ) (start : ℕ) → HasNoLength area ⊎ PassesEnd area → AreaOrFault area start
 with_none area start fault = elim fault [
-  | inl zero_length ↦ inr (ExtensionZero start, record { before = []; front = []; faulty = area; extensions = refl; joined = refl; place = omega arith; fault = zero_length })
+  | inl zero_length ↦ inr (
+    ExtensionZero start,
+    record { before = []; front = []; faulty = area; extensions = refl; joined = refl; place = omega arith; fault = zero_length },
+  )
   | inr past ↦ inr (ExtensionLong start, record { before = []; front = []; faulty = area; extensions = refl; joined = refl; place = omega arith; fault = past })
 ]
 
@@ -89,13 +97,15 @@ by_first None area start is some words later = with_none area start (none_first 
 by_first (Some (e, others)) area start is some words later =
     let cut = first_of-takes area e others is in
     let less = step area e others is in
-    subst (λ (xs : List ℕ). AreaOrFault xs start) (sym cut.2) (with_first cut.0 others e start cut.1 (later others (start + length cut.0) less.0 (omega (arith, less.1, words))))
+    subst (λ (xs : List ℕ). AreaOrFault xs start) (sym cut.2)
+    (with_first cut.0 others e start cut.1 (later others (start + length cut.0) less.0 (omega (arith, less.1, words))))
 
 area_or_fault : (n : ℕ) (area : List ℕ) (start : ℕ) → length area ≤ n → length area % 4 ≡ 0 → AreaOrFault area start
 area_or_fault zero [] start le words = inl ([], refl)
 area_or_fault zero (x ∷ xs) start le words = absurd (omega arith)
 area_or_fault (suc n) [] start le words = inl ([], refl)
-area_or_fault (suc n) (x ∷ xs) start le words = by_first (first_of (x ∷ xs)) (x ∷ xs) start refl (omega arith) words (λ others from less whole. area_or_fault n others from (omega arith) whole)
+area_or_fault (suc n) (x ∷ xs) start le words = by_first (first_of (x ∷ xs))
+    (x ∷ xs) start refl (omega arith) words (λ others from less whole. area_or_fault n others from (omega arith) whole)
 
 -- ---- all of the bytes
 

@@ -81,7 +81,8 @@ found bytes w tsi toi area rest laid =
     let r1 = laid.cci ++ r2 in
     let len : length laid.word ≡ 4 = ap length laid.spells.spelling in
     let whole : length bytes ≡ length laid.word + (length laid.cci + (length tsi + (length toi + (length area + length rest)))) =
-    ap length laid.joined ∙ (let n1 = length-append laid.word r1 in let n2 = length-append laid.cci r2 in let n3 = length-append tsi r3 in let n4 = length-append toi r4 in let n5 = length-append area rest in omega arith) in
+    ap length laid.joined ∙ (let n1 = length-append laid.word r1 in let n2 = length-append laid.cci r2 in
+    let n3 = length-append tsi r3 in let n4 = length-append toi r4 in let n5 = length-append area rest in omega arith) in
     let again = word_again laid.word w r1 laid.spells in
     let word : word_in bytes ≡ w = ap word_in laid.joined ∙ again.0 in
     let first : version bytes ≡ 1 = ap version laid.joined ∙ again.1 in

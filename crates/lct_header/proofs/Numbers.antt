@@ -13,8 +13,18 @@ fits_bytes n bits whole lt =
     rw (bytes_bits (bits / 8), same) lt
 
 -- fields of the stated lengths make a header
-pub fields_are_header : (w : FirstWord) (close_session close_object : Bool) (tsi toi : List ℕ) (codepoint : ℕ) → FitsWord w → length tsi ≡ tsi_length w → length toi ≡ toi_length w → AreBytes tsi → AreBytes toi → codepoint < 256
-    → IsHeader (record { close_session = close_session; close_object = close_object; tsi = big_number (length tsi) tsi; tsi_bits = 8 * length tsi; toi = big_number (length toi) toi; toi_bits = 8 * length toi; codepoint = codepoint })
+pub fields_are_header : (w : FirstWord) (close_session close_object : Bool) (tsi toi : List ℕ) (codepoint : ℕ)
+    → FitsWord w → length tsi ≡ tsi_length w → length toi ≡ toi_length w → AreBytes tsi → AreBytes toi → codepoint < 256
+    → IsHeader (record {
+      close_session = close_session;
+      close_object = close_object;
+      tsi = big_number (length tsi) tsi;
+      tsi_bits =
+          8 * length tsi;
+      toi = big_number (length toi) toi;
+      toi_bits = 8 * length toi;
+      codepoint = codepoint;
+    })
 fields_are_header w close_session close_object tsi toi codepoint fits a b tsi_fits toi_fits codepoint_fits = record {
   tsi_bits = omega (arith, fits.s, fits.h);
   tsi_halves = omega arith;

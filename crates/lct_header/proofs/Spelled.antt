@@ -13,7 +13,8 @@ use Rattle.lct_header.proofs.Splitting.{area_words}
 
 -- a header by its parts
 made : (h : Header) (tsi tsi_bits toi toi_bits : ℕ) → tsi ≡ h.tsi → tsi_bits ≡ h.tsi_bits → toi ≡ h.toi → toi_bits ≡ h.toi_bits
-    → ◌≡◌ {A = Header} h (record { close_session = h.close_session; close_object = h.close_object; tsi = tsi; tsi_bits = tsi_bits; toi = toi; toi_bits = toi_bits; codepoint = h.codepoint })
+    → ◌≡◌ {A = Header} h (record
+    { close_session = h.close_session; close_object = h.close_object; tsi = tsi; tsi_bits = tsi_bits; toi = toi; toi_bits = toi_bits; codepoint = h.codepoint })
 made h tsi tsi_bits toi toi_bits a b d e = rw (a, b, d, e) refl
 
 -- the lengths that the written word states

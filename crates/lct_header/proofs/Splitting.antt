@@ -1,5 +1,7 @@
 -- Extensions, cut from an area one after the other.
-use Rattle.std.proofs.Common.{◌≡◌, ℕ, zero, suc, ◌+◌, ◌-◌, ◌*◌, ◌%◌, ◌<◌, ◌≤◌, Bool, true, false, cond, eqb, ltb, List, [], ◌∷◌, ◌++◌, length, take, drop, Option, Some, None, refl, sym, ap, subst, ◌∙◌, append_assoc, arith, inl, inr}
+use Rattle.std.proofs.Common.{◌≡◌, ℕ, zero, suc, ◌+◌, ◌-◌, ◌*◌, ◌%◌, ◌<◌, ◌≤◌, Bool, true, false, cond, eqb, ltb, List, [], ◌∷◌}
+use Rattle.std.proofs.Common.{◌++◌, length, take, drop, Option, Some, None, refl, sym, ap, subst, ◌∙◌, append_assoc, arith, inl}
+use Rattle.std.proofs.Common.{inr}
 use Rattle.std.specs.Prelude.{◌||◌}
 use Rattle.std.proofs.lemmas.Bool.{eqb-false, ne_eqb, ltb-true, ltb-false, lt-ltb, le-ltb, or_parts}
 use Rattle.std.proofs.lemmas.List.{append-nil, length-append, length-take, take-append-drop, take_at, drop_at}
@@ -11,12 +13,14 @@ use Rattle.lct_header.specs.Inner.Extensions.{measured, first_of, before_others,
 -- ---- one extension
 
 -- an extension of a length is the first
-measured_first : (e : Extension) (hel : ℕ) (others : List ℕ) → e.het < 128 → 0 < hel → length e.content + 2 ≡ 4 * hel → first_of (e.het ∷ hel ∷ (e.content ++ others)) ≡ Some (e, others)
+measured_first : (e : Extension) (hel : ℕ) (others : List ℕ) → e.het < 128 → 0 < hel
+    → length e.content + 2 ≡ 4 * hel → first_of (e.het ∷ hel ∷ (e.content ++ others)) ≡ Some (e, others)
 measured_first e hel others low some whole =
     let n : 4 * hel - 2 ≡ length e.content = omega arith in
     let low_is : ltb e.het 128 ≡ true = lt-ltb e.het 128 low in
     let some_is : eqb hel 0 ≡ false = ne_eqb hel 0 (λ e. omega arith) in
-    let long : ltb (length (e.content ++ others) + 2) (4 * hel) ≡ false = le-ltb (length (e.content ++ others) + 2) (4 * hel) (omega (arith, length-append e.content others)) in
+    let long : ltb (length (e.content ++ others) + 2) (4 * hel) ≡ false =
+    le-ltb (length (e.content ++ others) + 2) (4 * hel) (omega (arith, length-append e.content others)) in
     rw (low_is, some_is, long, n, take_at e.content others (length e.content) refl, drop_at e.content others (length e.content) refl) refl
 
 -- an extension of one word is the first
@@ -30,8 +34,10 @@ one_word_first e others high whole =
 pub first_of-extension : (first : List ℕ) (e : Extension) (others : List ℕ) → IsExtension first e → first_of (first ++ others) ≡ Some (e, others)
 first_of-extension first e others is =
     elim is [
-      | inl m ↦ ap (λ (xs : List ℕ). first_of (xs ++ others)) m.spelling ∙ measured_first e m.hel others m.low m.some (let n : length (e.het ∷ m.hel ∷ e.content) ≡ 4 * m.hel = sym (ap length m.spelling) ∙ m.whole in omega arith)
-      | inr o ↦ ap (λ (xs : List ℕ). first_of (xs ++ others)) o.spelling ∙ one_word_first e others o.high (let n : length (e.het ∷ e.content) ≡ 4 = sym (ap length o.spelling) ∙ o.whole in omega arith)
+      | inl m ↦ ap (λ (xs : List ℕ). first_of (xs ++ others)) m.spelling ∙ measured_first e m.hel others m.low
+          m.some (let n : length (e.het ∷ m.hel ∷ e.content) ≡ 4 * m.hel = sym (ap length m.spelling) ∙ m.whole in omega arith)
+      | inr o ↦ ap (λ (xs : List ℕ). first_of (xs ++ others)) o.spelling
+          ∙ one_word_first e others o.high (let n : length (e.het ∷ e.content) ≡ 4 = sym (ap length o.spelling) ∙ o.whole in omega arith)
     ]
 
 -- a choice of something
@@ -54,11 +60,15 @@ measured_takes het (hel ∷ bytes) p low e =
     let long : 4 * hel ≤ length bytes + 2 = ltb-false _ _ tests.1 in
     let some : 0 < hel = omega (arith, eqb-false hel 0 tests.0) in
     let len : length (take n bytes) + 2 ≡ 4 * hel = omega (arith, length-take n bytes) in
-    subst (λ (q : Extension × List ℕ). IsCut (het ∷ hel ∷ bytes) q) g.1
-    (het ∷ hel ∷ take n bytes, inl (record { hel = hel; low = low; some = some; spelling = refl; whole = omega (arith, len) }), ap (λ (xs : List ℕ). het ∷ hel ∷ xs) (sym (take-append-drop n bytes)))
+    subst (λ (q : Extension × List ℕ). IsCut (het ∷ hel ∷ bytes) q) g.1 (
+      het ∷ hel ∷ take n bytes,
+      inl (record { hel = hel; low = low; some = some; spelling = refl; whole = omega (arith, len) }),
+      ap (λ (xs : List ℕ). het ∷ hel ∷ xs) (sym (take-append-drop n bytes)),
+    )
 
 -- of an extension of one word
-one_word_takes : (het : ℕ) (bytes : List ℕ) (p : Extension × List ℕ) → 128 ≤ het → cond (ltb (length bytes) 3) None (Some (record { het = het; content = take 3 bytes }, drop 3 bytes)) ≡ Some p → IsCut (het ∷ bytes) p
+one_word_takes : (het : ℕ) (bytes : List ℕ) (p : Extension × List ℕ) → 128 ≤ het
+    → cond (ltb (length bytes) 3) None (Some (record { het = het; content = take 3 bytes }, drop 3 bytes)) ≡ Some p → IsCut (het ∷ bytes) p
 one_word_takes het bytes p high e =
     let made : Extension × List ℕ = (record { het = het; content = take 3 bytes }, drop 3 bytes) in
     let g = guard_some (ltb (length bytes) 3) made p e in
@@ -74,7 +84,8 @@ takes_on true het bytes p is e = measured_takes het bytes p (ltb-true _ _ is) e
 takes_on false het bytes p is e = one_word_takes het bytes p (ltb-false _ _ is) e
 
 -- what is first is an extension, and what follows it
-pub first_of-takes : (bytes : List ℕ) (e : Extension) (others : List ℕ) → first_of bytes ≡ Some (e, others) → (first : List ℕ) × IsExtension first e × (bytes ≡ first ++ others)
+pub first_of-takes : (bytes : List ℕ) (e : Extension) (others : List ℕ)
+    → first_of bytes ≡ Some (e, others) → (first : List ℕ) × IsExtension first e × (bytes ≡ first ++ others)
 first_of-takes [] e others is = absurd cc
 first_of-takes (het ∷ bytes) e others is = takes_on (ltb het 128) het bytes (e, others) refl is
 
@@ -83,7 +94,8 @@ extension_words : (first : List ℕ) (e : Extension) → IsExtension first e →
 extension_words first e is = elim is [ inl m ↦ (omega (arith, m.whole, m.some), omega (arith, m.whole)) | inr o ↦ (omega (arith, o.whole), omega (arith, o.whole)) ]
 
 -- what follows the first is less, by whole words
-pub step : (bytes : List ℕ) (e : Extension) (others : List ℕ) → first_of bytes ≡ Some (e, others) → (length others < length bytes) × (length others % 4 ≡ length bytes % 4)
+pub step : (bytes : List ℕ) (e : Extension) (others : List ℕ) → first_of bytes ≡ Some (e, others)
+    → (length others < length bytes) × (length others % 4 ≡ length bytes % 4)
 step bytes e others is =
     let cut = first_of-takes bytes e others is in
     let words = extension_words cut.0 e cut.1 in
@@ -111,13 +123,15 @@ area_count (e ∷ es) area are =
     omega (arith, one.0, more)
 
 -- one extension more at the end
-pub area_more : (es : List Extension) (front : List ℕ) (first : List ℕ) (e : Extension) → AreExtensions front es → IsExtension first e → AreExtensions (front ++ first) (es ++ e ∷ [])
+pub area_more : (es : List Extension) (front : List ℕ) (first : List ℕ) (e : Extension)
+    → AreExtensions front es → IsExtension first e → AreExtensions (front ++ first) (es ++ e ∷ [])
 area_more [] front first e are is = (first, [], is, ap (λ (xs : List ℕ). xs ++ first) are ∙ sym (append-nil first), refl)
 area_more (f ∷ es) front first e are is =
     (are.0, are.1 ++ first, are.2, ap (λ (xs : List ℕ). xs ++ first) are.3 ∙ append_assoc are.0 are.1 first, area_more es are.1 first e are.4 is)
 
 -- extensions before what begins with none are cut off, and no more
-pub split-area : (n : ℕ) (es : List Extension) (front rest : List ℕ) → length (front ++ rest) ≤ n → AreExtensions front es → first_of rest ≡ None → split n (front ++ rest) ≡ (es, rest)
+pub split-area : (n : ℕ) (es : List Extension) (front rest : List ℕ) → length (front ++ rest) ≤ n
+    → AreExtensions front es → first_of rest ≡ None → split n (front ++ rest) ≡ (es, rest)
 split-area zero [] front rest le are none = ap (λ (xs : List ℕ). ([], xs ++ rest)) are
 split-area zero (e ∷ es) front rest le are none =
     let one = extension_words are.0 e are.2 in
@@ -152,7 +166,8 @@ none_left area (e ∷ es, are) none =
     absurd cc
 
 -- and where one is
-pub some_left : (area : List ℕ) (e : Extension) (others : List ℕ) → IsArea area → first_of area ≡ Some (e, others) → (extensions_in area ≡ e ∷ extensions_in others) × IsArea others
+pub some_left : (area : List ℕ) (e : Extension) (others : List ℕ) → IsArea area
+    → first_of area ≡ Some (e, others) → (extensions_in area ≡ e ∷ extensions_in others) × IsArea others
 some_left area e others ([], are) is = let none : first_of area ≡ None = ap first_of are in absurd cc
 some_left area e others (f ∷ fs, are) is =
     let head : first_of area ≡ Some (f, are.1) = ap first_of are.3 ∙ first_of-extension are.0 f are.1 are.2 in
@@ -160,5 +175,8 @@ some_left area e others (f ∷ fs, are) is =
     let same : ◌≡◌ {A = Extension × List ℕ} (f, are.1) (e, others) = same_Some _ _ pair in
     let e-is : f ≡ e = ap (λ (p : Extension × List ℕ). p.0) same in
     let others-are : are.1 ≡ others = ap (λ (p : Extension × List ℕ). p.1) same in
-    let left : AreExtensions others fs = subst (λ (xs : List ℕ). AreExtensions xs fs) others-are are.4 in
-    (extensions_in-area area (f ∷ fs) are ∙ ap (λ (x : Extension). x ∷ fs) e-is ∙ ap (λ (xs : List Extension). e ∷ xs) (sym (extensions_in-area others fs left)), (fs, left))
+    let left : AreExtensions others fs = subst (λ (xs : List ℕ). AreExtensions xs fs) others-are are.4 in (
+      extensions_in-area area (f ∷ fs) are ∙ ap (λ (x : Extension). x ∷ fs) e-is
+          ∙ ap (λ (xs : List Extension). e ∷ xs) (sym (extensions_in-area others fs left)),
+      (fs, left),
+    )

@@ -24,7 +24,8 @@ view_is bytes v rest is =
     }
 
 -- the header's bytes, and what follows them
-front_and_rest : (bytes : List ℕ) (v : HeaderView) (rest : List ℕ) → BeginsWithHeader bytes v rest → (front : List ℕ) × (bytes ≡ front ++ rest) × (length front ≡ v.length)
+front_and_rest : (bytes : List ℕ) (v : HeaderView) (rest : List ℕ) → BeginsWithHeader bytes v rest
+    → (front : List ℕ) × (bytes ≡ front ++ rest) × (length front ≡ v.length)
 front_and_rest bytes v rest is =
     let laid = is.layout in
     let r3 = is.toi ++ v.area in
@@ -33,7 +34,19 @@ front_and_rest bytes v rest is =
     let word : length laid.word ≡ 4 = ap length laid.spells.spelling in (
       laid.word ++ r1,
       laid.joined ∙ simp append_assoc,
-      omega (arith, word, length-append laid.word r1, length-append laid.cci r2, length-append is.tsi r3, length-append is.toi v.area, laid.cci_bytes, laid.tsi_bytes, laid.toi_bytes, laid.stated, is.length),
+      omega (
+        arith,
+        word,
+        length-append laid.word r1,
+        length-append laid.cci r2,
+        length-append is.tsi r3,
+        length-append is.toi v.area,
+        laid.cci_bytes,
+        laid.tsi_bytes,
+        laid.toi_bytes,
+        laid.stated,
+        is.length,
+      ),
     )
 
 -- all of the header is there
@@ -57,7 +70,8 @@ header_is bytes v rest are is =
     let tsi : AreBytes is.tsi = subst AreBytes at.tsi_is (bytes_take _ _ (bytes_drop _ bytes are)) in
     let toi : AreBytes is.toi = subst AreBytes at.toi_is (bytes_take _ _ (bytes_drop _ bytes are)) in
     subst IsHeader (sym is.header)
-    (fields_are_header is.word is.word.close_session is.word.close_object is.tsi is.toi is.word.codepoint is.layout.spells.fits is.layout.tsi_bytes is.layout.toi_bytes tsi toi is.layout.spells.fits.codepoint)
+    (fields_are_header is.word is.word.close_session is.word.close_object is.tsi is.toi is.word.codepoint
+    is.layout.spells.fits is.layout.tsi_bytes is.layout.toi_bytes tsi toi is.layout.spells.fits.codepoint)
 
 -- the area and the rest are of bytes
 pub area_bytes : (bytes : List ℕ) (v : HeaderView) (rest : List ℕ) → AreBytes bytes → BeginsWithHeader bytes v rest → AreBytes v.area

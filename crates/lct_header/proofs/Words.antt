@@ -39,12 +39,14 @@ second_byte s o h r a b ls lo lh lr la lb = (omega arith, omega arith, omega ari
 pub word_again : (bytes : List ℕ) (w : FirstWord) (rest : List ℕ) → SpellsWord bytes w → (word_in (bytes ++ rest) ≡ w) × (version (bytes ++ rest) ≡ 1)
 word_again bytes w rest spells =
     let one = first_byte w.c spells.psi spells.fits.c spells.psi_fits in
-    let two = second_byte w.s w.o w.h spells.reserved (bit w.close_session) (bit w.close_object) spells.fits.s spells.fits.o spells.fits.h spells.reserved_fits (bit_fits w.close_session) (bit_fits w.close_object) in
+    let two = second_byte w.s w.o w.h spells.reserved (bit w.close_session) (bit w.close_object) spells.fits.s
+    spells.fits.o spells.fits.h spells.reserved_fits (bit_fits w.close_session) (bit_fits w.close_object) in
     subst (λ (xs : List ℕ). (word_in (xs ++ rest) ≡ w) × (version (xs ++ rest) ≡ 1)) (sym spells.spelling)
     (made w _ _ _ _ _ _ _ _ one.0 two.0 two.1 two.2 (flag_again w.close_session _ two.3) (flag_again w.close_object _ two.4) refl refl, one.1)
 
 -- bytes of version 1 spell what is read
-pub word_spelled : (b0 b1 b2 b3 : ℕ) (rest : List ℕ) → b0 / 16 ≡ 1 → b1 < 256 → b2 < 256 → b3 < 256 → SpellsWord (b0 ∷ b1 ∷ b2 ∷ b3 ∷ []) (word_in (b0 ∷ b1 ∷ b2 ∷ b3 ∷ rest))
+pub word_spelled : (b0 b1 b2 b3 : ℕ) (rest : List ℕ) → b0 / 16 ≡ 1 → b1 < 256 → b2 < 256
+    → b3 < 256 → SpellsWord (b0 ∷ b1 ∷ b2 ∷ b3 ∷ []) (word_in (b0 ∷ b1 ∷ b2 ∷ b3 ∷ rest))
 word_spelled b0 b1 b2 b3 rest v f1 f2 f3 =
     let w = word_in (b0 ∷ b1 ∷ b2 ∷ b3 ∷ rest) in
     let a : bit w.close_session ≡ b1 / 2 % 2 = bit_of (b1 / 2 % 2) (omega arith) in

@@ -32,11 +32,14 @@ impl Model for Header {
 
     ghost Value = { Header };
 
-    ghost view = { λ a. record { close_session = a.close_session; close_object = a.close_object; tsi = a.tsi; tsi_bits = a.tsi_bits; toi = a.toi; toi_bits = a.toi_bits; codepoint = a.codepoint } };
+    ghost view = { λ a.
+        record { close_session = a.close_session; close_object = a.close_object; tsi = a.tsi; tsi_bits = a.tsi_bits; toi = a.toi; toi_bits = a.toi_bits; codepoint = a.codepoint } };
 
-    ghost invariant = { λ a. IsHeader (record { close_session = a.close_session; close_object = a.close_object; tsi = a.tsi; tsi_bits = a.tsi_bits; toi = a.toi; toi_bits = a.toi_bits; codepoint = a.codepoint }) };
+    ghost invariant = { λ a. IsHeader (
+        record { close_session = a.close_session; close_object = a.close_object; tsi = a.tsi; tsi_bits = a.tsi_bits; toi = a.toi; toi_bits = a.toi_bits; codepoint = a.codepoint }) };
 
-    ghost inverse = { λ d. record { close_session = d.close_session; close_object = d.close_object; tsi = d.tsi; tsi_bits = d.tsi_bits; toi = d.toi; toi_bits = d.toi_bits; codepoint = d.codepoint } };
+    ghost inverse = { λ d.
+        record { close_session = d.close_session; close_object = d.close_object; tsi = d.tsi; tsi_bits = d.tsi_bits; toi = d.toi; toi_bits = d.toi_bits; codepoint = d.codepoint } };
 }
 
 /// A header that was read, with the bytes of its extensions. Its type keeps that the area is a list of extensions

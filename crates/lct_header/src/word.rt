@@ -35,7 +35,8 @@ impl Model for FirstWord {
 
     ghost view = { λ a. record { c = a.c; s = a.s; o = a.o; h = a.h; close_session = a.close_session; close_object = a.close_object; words = a.words; codepoint = a.codepoint } };
 
-    ghost invariant = { λ a. FitsWord (record { c = a.c; s = a.s; o = a.o; h = a.h; close_session = a.close_session; close_object = a.close_object; words = a.words; codepoint = a.codepoint }) };
+    ghost invariant = { λ a. FitsWord (
+        record { c = a.c; s = a.s; o = a.o; h = a.h; close_session = a.close_session; close_object = a.close_object; words = a.words; codepoint = a.codepoint }) };
 }
 
 impl FirstWord {

@@ -31,7 +31,8 @@ cut_none : (bytes : List ℕ) → length bytes ≤ position_or_len is_line_feed 
 cut_none [] none = refl
 cut_none (b ∷ bytes) none = by (is_line_feed b) (cut_none bytes) none
   where
-    by : (t : Bool) → (length bytes ≤ position_or_len is_line_feed bytes → cut bytes ≡ whole bytes) → suc (length bytes) ≤ cond (not t) (1 + position_or_len is_line_feed bytes) 0
+    by : (t : Bool) → (length bytes ≤ position_or_len is_line_feed bytes → cut bytes ≡ whole bytes)
+        → suc (length bytes) ≤ cond (not t) (1 + position_or_len is_line_feed bytes) 0
         → cond t ([] ∷ cut bytes) (begin_with b (cut bytes)) ≡ (b ∷ bytes) ∷ []
     by true later none = absurd (omega arith)
     by false later none = ap (begin_with b) (later (omega arith)) ∙ begin_whole b bytes
@@ -44,7 +45,8 @@ whole_some (b ∷ bytes) some = refl
 pub lines_at : (bytes : List ℕ) (at : ℕ) → position is_line_feed bytes ≡ Some at → lines_of bytes ≡ without_return (take at bytes) ∷ lines_of (drop (at + 1) bytes)
 lines_at bytes at e =
     let f = found_at is_line_feed bytes at e in
-    let c : cut bytes ≡ take at bytes ∷ cut (drop (at + 1) bytes) = subst (λ (n : ℕ). cut bytes ≡ take n bytes ∷ cut (drop (n + 1) bytes)) f.0 (cut_at bytes (omega (arith, f.0, f.1))) in
+    let c : cut bytes ≡ take at bytes ∷ cut (drop (at + 1) bytes) =
+    subst (λ (n : ℕ). cut bytes ≡ take n bytes ∷ cut (drop (n + 1) bytes)) f.0 (cut_at bytes (omega (arith, f.0, f.1))) in
     ap (λ (ls : List (List ℕ)). map without_return ls) c
 
 -- a text without one is a line

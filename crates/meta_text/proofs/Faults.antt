@@ -13,9 +13,11 @@ use Rattle.meta_text.proofs.Places.{found_at, none_at, any_from_place, any_witho
 chosen : ℕ → Bool → Bool → Bool → Option FieldFault
 chosen n colon name value = cond (not colon) (Some (NoColon n)) (cond (not name) (Some (BadName n)) (cond (not value) (Some (BadValue n)) None))
 
-fault_by : (n : ℕ) (line : List ℕ) (colon name value : Bool) → list_any is_colon line ≡ colon → is_name (name_in line) ≡ name → is_clean (value_in line) ≡ value → fault_of (n, line) ≡ chosen n colon name value
+fault_by : (n : ℕ) (line : List ℕ) (colon name value : Bool) → list_any is_colon line ≡ colon
+    → is_name (name_in line) ≡ name → is_clean (value_in line) ≡ value → fault_of (n, line) ≡ chosen n colon name value
 unfolding chosen
-fault_by n line colon name value a b c = ap (λ t. chosen n t (is_name (name_in line)) (is_clean (value_in line))) a ∙ ap (λ t. chosen n colon t (is_clean (value_in line))) b ∙ ap (chosen n colon name) c
+fault_by n line colon name value a b c = ap (λ t. chosen n t (is_name (name_in line)) (is_clean (value_in line))) a
+    ∙ ap (λ t. chosen n colon t (is_clean (value_in line))) b ∙ ap (chosen n colon name) c
 
 pub name_at : (line : List ℕ) (at : ℕ) → position is_colon line ≡ Some at → name_in line ≡ take at line
 name_at line at e = ap (λ n. take n line) (found_at is_colon line at e).0
@@ -34,11 +36,14 @@ pub fault_bad_name : (n : ℕ) (line : List ℕ) (at : ℕ) → position is_colo
 unfolding chosen
 fault_bad_name n line at e name = fault_by n line true false (is_clean (value_in line)) (colon_at line at e) (ap is_name (name_at line at e) ∙ name) refl
 
-pub fault_bad_value : (n : ℕ) (line : List ℕ) (at : ℕ) → position is_colon line ≡ Some at → is_name (take at line) ≡ true → is_clean (trimmed (drop (at + 1) line)) ≡ false → fault_of (n, line) ≡ Some (BadValue n)
+pub fault_bad_value : (n : ℕ) (line : List ℕ) (at : ℕ) → position is_colon line ≡ Some at → is_name (take at line) ≡ true
+    → is_clean (trimmed (drop (at + 1) line)) ≡ false → fault_of (n, line) ≡ Some (BadValue n)
 unfolding chosen
-fault_bad_value n line at e name value = fault_by n line true true false (colon_at line at e) (ap is_name (name_at line at e) ∙ name) (ap is_clean (value_at line at e) ∙ value)
+fault_bad_value n line at e name value = fault_by n line true true false (colon_at line at e)
+    (ap is_name (name_at line at e) ∙ name) (ap is_clean (value_at line at e) ∙ value)
 
-pub fault_none : (n : ℕ) (line : List ℕ) (at : ℕ) → position is_colon line ≡ Some at → is_name (take at line) ≡ true → is_clean (trimmed (drop (at + 1) line)) ≡ true → fault_of (n, line) ≡ None
+pub fault_none : (n : ℕ) (line : List ℕ) (at : ℕ) → position is_colon line ≡ Some at
+    → is_name (take at line) ≡ true → is_clean (trimmed (drop (at + 1) line)) ≡ true → fault_of (n, line) ≡ None
 unfolding chosen
 fault_none n line at e name value = fault_by n line true true true (colon_at line at e) (ap is_name (name_at line at e) ∙ name) (ap is_clean (value_at line at e) ∙ value)
 

@@ -72,7 +72,8 @@ blanks_back text =
     let front = blanks_front (reverse text) in
     (reverse front.0, all_reversed is_blank front.0 front.1, sym (reverse-reverse text) ∙ ap reverse front.2 ∙ reverse-append front.0 (without_leading (reverse text)))
 
-pub trimmed_between : (text : List ℕ) → (before : List ℕ) × (after : List ℕ) × (list_all is_blank before ≡ true) × (list_all is_blank after ≡ true) × (text ≡ before ++ (trimmed text ++ after))
+pub trimmed_between : (text : List ℕ) → (before : List ℕ) × (after : List ℕ) × (list_all is_blank before ≡ true)
+    × (list_all is_blank after ≡ true) × (text ≡ before ++ (trimmed text ++ after))
 trimmed_between text =
     let front = blanks_front text in
     let back = blanks_back (without_leading text) in

@@ -9,7 +9,8 @@ use Rattle.meta_text.specs.Fields.{ArePairs}
 use Rattle.meta_text.specs.Inner.Places.{name_at, value_at, pair_at, pairs_at, IsPlace, ArePlaces, Extends}
 
 -- the part of a text stays where it is
-part_grows : (text more : List ℕ) (start end : ℕ) → start ≤ end → end ≤ length text → take (end - start) (drop start (text ++ more)) ≡ take (end - start) (drop start text)
+part_grows : (text more : List ℕ) (start end : ℕ) → start ≤ end → end ≤ length text
+    → take (end - start) (drop start (text ++ more)) ≡ take (end - start) (drop start text)
 part_grows text more start end order within =
     ap (take (end - start)) (drop-append-le start text more (omega arith))
     ∙ take-append-le (end - start) (drop start text) more (omega (arith, length-drop start text))

@@ -24,7 +24,8 @@ pub any_from_place : {X : Type 0} (p : X → Bool) (xs : List X) → position_or
 any_from_place p [] less = absurd (omega arith)
 any_from_place p (x ∷ xs) less = by (p x) (any_from_place p xs) less
   where
-    by : (t : Bool) → (position_or_len p xs < length xs → list_any p xs ≡ true) → cond (not t) (1 + position_or_len p xs) 0 < suc (length xs) → (t || list_any p xs) ≡ true
+    by : (t : Bool) → (position_or_len p xs < length xs → list_any p xs ≡ true)
+        → cond (not t) (1 + position_or_len p xs) 0 < suc (length xs) → (t || list_any p xs) ≡ true
     by true later less = refl
     by false later less = later (omega arith)
 
@@ -32,6 +33,7 @@ pub any_without_place : {X : Type 0} (p : X → Bool) (xs : List X) → length x
 any_without_place p [] none = refl
 any_without_place p (x ∷ xs) none = by (p x) (any_without_place p xs) none
   where
-    by : (t : Bool) → (length xs ≤ position_or_len p xs → list_any p xs ≡ false) → suc (length xs) ≤ cond (not t) (1 + position_or_len p xs) 0 → (t || list_any p xs) ≡ false
+    by : (t : Bool) → (length xs ≤ position_or_len p xs → list_any p xs ≡ false)
+        → suc (length xs) ≤ cond (not t) (1 + position_or_len p xs) 0 → (t || list_any p xs) ≡ false
     by true later none = absurd (omega arith)
     by false later none = later (omega arith)

@@ -30,9 +30,11 @@ fault_step : (fault : FieldFault) (front : List Pair) (n : ℕ) (line : List ℕ
     → with_front front (said (numbered n (line ∷ lines))) ≡ Err fault
 fault_step fault front n line lines is = by (is_empty line) is
   where
-    by : (t : Bool) → first_fault (cond t [] ((n, line) ∷ [])) ≡ Some fault → with_front front (said (cond t (numbered (n + 1) lines) ((n, line) ∷ numbered (n + 1) lines))) ≡ Err fault
+    by : (t : Bool) → first_fault (cond t [] ((n, line) ∷ [])) ≡ Some fault
+        → with_front front (said (cond t (numbered (n + 1) lines) ((n, line) ∷ numbered (n + 1) lines))) ≡ Err fault
     by true s = absurd cc
-    by false s = ap (with_front front) (stop_at (pair_in (n, line) ∷ pairs_in (numbered (n + 1) lines)) fault (fault_of (n, line)) (first_fault (numbered (n + 1) lines)) s)
+    by false s = ap (with_front front)
+        (stop_at (pair_in (n, line) ∷ pairs_in (numbered (n + 1) lines)) fault (fault_of (n, line)) (first_fault (numbered (n + 1) lines)) s)
 
 pub begins : (text : List ℕ) → with_front [] (said (numbered 1 (lines_of text))) ≡ reading text
 unfolding reading

@@ -8,7 +8,8 @@ lead_again : (xs : List ℕ) → without_leading (without_leading xs) ≡ withou
 lead_again [] = refl
 lead_again (b ∷ bs) = by (is_blank b) refl (lead_again bs)
   where
-    by : (t : Bool) → is_blank b ≡ t → without_leading (without_leading bs) ≡ without_leading bs → without_leading (cond t (without_leading bs) (b ∷ bs)) ≡ cond t (without_leading bs) (b ∷ bs)
+    by : (t : Bool) → is_blank b ≡ t → without_leading (without_leading bs) ≡ without_leading bs
+        → without_leading (cond t (without_leading bs) (b ∷ bs)) ≡ cond t (without_leading bs) (b ∷ bs)
     by true e before = before
     by false e before = ap (λ t. cond t (without_leading bs) (b ∷ bs)) e
 
@@ -19,7 +20,8 @@ lead_push : (xs : List ℕ) (b : ℕ) → is_blank b ≡ false → without_leadi
 lead_push [] b e = ap (λ t. cond t [] (b ∷ [])) e
 lead_push (a ∷ xs) b e = by (is_blank a) (lead_push xs b e)
   where
-    by : (t : Bool) → without_leading (xs ++ b ∷ []) ≡ without_leading xs ++ b ∷ [] → cond t (without_leading (xs ++ b ∷ [])) (a ∷ (xs ++ b ∷ [])) ≡ cond t (without_leading xs) (a ∷ xs) ++ b ∷ []
+    by : (t : Bool) → without_leading (xs ++ b ∷ []) ≡ without_leading xs ++ b ∷ []
+        → cond t (without_leading (xs ++ b ∷ [])) (a ∷ (xs ++ b ∷ [])) ≡ cond t (without_leading xs) (a ∷ xs) ++ b ∷ []
     by true before = before
     by false before = refl
 
@@ -34,7 +36,8 @@ lead_of_trimmed : (xs : List ℕ) → without_leading (trimmed xs) ≡ trimmed x
 lead_of_trimmed [] = refl
 lead_of_trimmed (b ∷ bs) = by (is_blank b) refl (lead_of_trimmed bs)
   where
-    by : (t : Bool) → is_blank b ≡ t → without_leading (trimmed bs) ≡ trimmed bs → without_leading (without_trailing (cond t (without_leading bs) (b ∷ bs))) ≡ without_trailing (cond t (without_leading bs) (b ∷ bs))
+    by : (t : Bool) → is_blank b ≡ t → without_leading (trimmed bs) ≡ trimmed bs
+        → without_leading (without_trailing (cond t (without_leading bs) (b ∷ bs))) ≡ without_trailing (cond t (without_leading bs) (b ∷ bs))
     by true e before = before
     by false e before =
         let c = trail_cons b bs e in

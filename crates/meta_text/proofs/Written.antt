@@ -1,5 +1,6 @@
 -- What is written is read back.
-use Rattle.std.proofs.Common.{◌≡◌, ℕ, ◌+◌, ◌<◌, Bool, true, false, not, cond, eqb, List, [], ◌∷◌, ◌++◌, length, take, drop, reverse, map, None, Ok, refl, sym, ap, ◌∙◌, append_assoc, arith}
+use Rattle.std.proofs.Common.{◌≡◌, ℕ, ◌+◌, ◌<◌, Bool, true, false, not, cond, eqb, List, [], ◌∷◌, ◌++◌, length, take, drop}
+use Rattle.std.proofs.Common.{reverse, map, None, Ok, refl, sym, ap, ◌∙◌, append_assoc, arith}
 use Rattle.std.specs.List.{list_all, position_or_len}
 use Rattle.std.specs.Option.{option_or}
 use Rattle.std.proofs.lemmas.Bool.{eqb-true, and_parts, and_from, false≢true}
@@ -36,7 +37,8 @@ cut_line (b ∷ xs) rest none =
     let parts = and_parts (not (is_line_feed b)) (list_all (λ b. not (is_line_feed b)) xs) none in
     by (is_line_feed b) parts.0 (cut_line xs rest parts.1)
   where
-    by : (t : Bool) → not t ≡ true → cut (xs ++ 0x0A ∷ rest) ≡ xs ∷ cut rest → cond t ([] ∷ cut (xs ++ 0x0A ∷ rest)) (begin_with b (cut (xs ++ 0x0A ∷ rest))) ≡ (b ∷ xs) ∷ cut rest
+    by : (t : Bool) → not t ≡ true → cut (xs ++ 0x0A ∷ rest) ≡ xs ∷ cut rest
+        → cond t ([] ∷ cut (xs ++ 0x0A ∷ rest)) (begin_with b (cut (xs ++ 0x0A ∷ rest))) ≡ (b ∷ xs) ∷ cut rest
     by true other before = absurd cc
     by false other before = ap (begin_with b) before
 
@@ -85,13 +87,15 @@ name_of_text pair is = ap (λ n. take n (text_of pair)) (colon_place pair is) �
 value_of_text : (pair : Pair) → IsPair pair → value_in (text_of pair) ≡ pair.1
 value_of_text pair is =
     let joined : text_of pair ≡ (pair.0 ++ 0x3A ∷ []) ++ 0x20 ∷ pair.1 = sym (append_assoc pair.0 (0x3A ∷ []) (0x20 ∷ pair.1)) in
-    let rest : drop (length pair.0 + 1) (text_of pair) ≡ 0x20 ∷ pair.1 = ap (drop (length pair.0 + 1)) joined ∙ drop_at (pair.0 ++ 0x3A ∷ []) (0x20 ∷ pair.1) (length pair.0 + 1) (length_push pair.0 0x3A) in
+    let rest : drop (length pair.0 + 1) (text_of pair) ≡ 0x20 ∷ pair.1 = ap (drop (length pair.0 + 1)) joined
+    ∙ drop_at (pair.0 ++ 0x3A ∷ []) (0x20 ∷ pair.1) (length pair.0 + 1) (length_push pair.0 0x3A) in
     ap (λ n. trimmed (drop (n + 1) (text_of pair))) (colon_place pair is) ∙ ap trimmed rest ∙ is.value.ends
 
 sound_text : (n : ℕ) (pair : Pair) → IsPair pair → fault_of (n, text_of pair) ≡ None
 sound_text n pair is =
     let some : position_or_len is_colon (text_of pair) < length (text_of pair) = omega (arith, colon_place pair is, length-append pair.0 (0x3A ∷ 0x20 ∷ pair.1)) in
-    fault_none_by n (text_of pair) (any_from_place is_colon (text_of pair) some) (ap is_name (name_of_text pair is) ∙ is.name) (ap is_clean (value_of_text pair is) ∙ is.value.clean)
+    fault_none_by n (text_of pair) (any_from_place is_colon (text_of pair) some)
+    (ap is_name (name_of_text pair is) ∙ is.name) (ap is_clean (value_of_text pair is) ∙ is.value.clean)
 
 -- ---- the lines of the pairs
 
@@ -99,11 +103,14 @@ not_empty : (xs : List ℕ) (y : ℕ) (ys : List ℕ) → is_empty (xs ++ y ∷ 
 not_empty [] y ys = refl
 not_empty (x ∷ xs) y ys = refl
 
-said_first : (n : ℕ) (pair : Pair) (lines : List (List ℕ)) → IsPair pair → said (numbered n (text_of pair ∷ lines)) ≡ with_front (pair ∷ []) (said (numbered (n + 1) lines))
+said_first : (n : ℕ) (pair : Pair) (lines : List (List ℕ)) → IsPair pair
+    → said (numbered n (text_of pair ∷ lines)) ≡ with_front (pair ∷ []) (said (numbered (n + 1) lines))
 said_first n pair lines is =
     let later = numbered (n + 1) lines in
-    let some : numbered n (text_of pair ∷ lines) ≡ (n, text_of pair) ∷ later = ap (λ t. cond t later ((n, text_of pair) ∷ later)) (not_empty pair.0 0x3A (0x20 ∷ pair.1)) in
-    let own : pair_in (n, text_of pair) ≡ pair = ap (λ name. (name, value_in (text_of pair))) (name_of_text pair is) ∙ ap (λ value. (pair.0, value)) (value_of_text pair is) in
+    let some : numbered n (text_of pair ∷ lines) ≡ (n, text_of pair) ∷ later =
+    ap (λ t. cond t later ((n, text_of pair) ∷ later)) (not_empty pair.0 0x3A (0x20 ∷ pair.1)) in
+    let own : pair_in (n, text_of pair) ≡ pair = ap (λ name. (name, value_in (text_of pair)))
+    (name_of_text pair is) ∙ ap (λ value. (pair.0, value)) (value_of_text pair is) in
     ap said some
     ∙ ap (λ f. unless (option_or f (first_fault later)) (pair_in (n, text_of pair) ∷ pairs_in later)) (sound_text n pair is)
     ∙ ap (λ p. unless (first_fault later) (p ∷ pairs_in later)) own

@@ -18,7 +18,8 @@ pub record IsAdded (h : BlockHeld) (k n size j : ℕ) (symbol places rows : List
   pub view : seen_as k n size places rows ≡ with_symbol h j symbol
   pub steps : steps_when_full k places ≡ solving_steps (with_symbol h j symbol)
 
-pub added : (h : BlockHeld) (k n size j width : ℕ) (symbol places rows source more longer : List ℕ) → seen_as k n size places rows ≡ h → IsBlock k n size places rows source
+pub added : (h : BlockHeld) (k n size j width : ℕ) (symbol places rows source more longer : List ℕ)
+    → seen_as k n size places rows ≡ h → IsBlock k n size places rows source
     → j < h.n → get h.rows j ≡ None → held_in h < h.k → length symbol ≤ h.size → width ≡ size → more ≡ places ++ j ∷ [] → longer ≡ rows ++ zero_filled width symbol
     → IsAdded h k n size j symbol more longer
 added h k n size j width symbol places rows source more longer view is less vacant wanting within same ps rs =
@@ -27,9 +28,11 @@ added h k n size j width symbol places rows source more longer view is less vaca
     let fits : length symbol ≤ size = subst (λ (g : BlockHeld). length symbol ≤ g.size) (sym view) within in
     let long = length_filled size symbol fits in
     let free : get (rows_map size places rows) j ≡ None = ap (λ (g : BlockHeld). get g.rows j) view ∙ vacant in
-    let holds = with_row k n size j places rows source row is (subst (λ (g : BlockHeld). j < g.n) (sym view) less) free (subst (λ (g : BlockHeld). held_in g < g.k) (sym view) wanting) long in
+    let holds = with_row k n size j places rows source row is (subst (λ (g : BlockHeld). j < g.n) (sym view) less)
+    free (subst (λ (g : BlockHeld). held_in g < g.k) (sym view) wanting) long in
     let rows_are : longer ≡ rows ++ row = rs ∙ ap (λ (w : ℕ). rows ++ zero_filled w symbol) same in
-    let there : IsWith k n size more longer = subst (λ (xs : List ℕ). IsWith k n size more xs) (sym rows_are) (subst (λ (xs : List ℕ). IsWith k n size xs (rows ++ row)) (sym ps) holds) in
+    let there : IsWith k n size more longer = subst (λ (xs : List ℕ). IsWith k n size more xs)
+    (sym rows_are) (subst (λ (xs : List ℕ). IsWith k n size xs (rows ++ row)) (sym ps) holds) in
     let view_is : seen_as k n size more longer ≡ with_symbol h j symbol =
     ap (λ (xs : List ℕ). seen_as k n size xs longer) ps ∙ ap (λ (xs : List ℕ). seen_as k n size (places ++ j ∷ []) xs) rows_are
     ∙ (λ i. record { k = k; n = n; size = size; rows = map_with size j places rows row is.whole long free i })
@@ -40,8 +43,11 @@ added h k n size j width symbol places rows source more longer view is less vaca
     }
 
 -- taken back, it is the old one
-pub taken_back : (size j width : ℕ) (symbol places rows more longer : List ℕ) → width ≡ size → length symbol ≤ size → more ≡ places ++ j ∷ [] → longer ≡ rows ++ zero_filled width symbol
+pub taken_back : (size j width : ℕ) (symbol places rows more longer : List ℕ) → width ≡ size
+    → length symbol ≤ size → more ≡ places ++ j ∷ [] → longer ≡ rows ++ zero_filled width symbol
     → (take (length more - 1) more ≡ places) × (take (length longer - width) longer ≡ rows)
 taken_back size j width symbol places rows more longer same fits ps rs =
-    let long = length_filled width symbol (omega (arith, same, fits)) in
-    (ap (λ (xs : List ℕ). take (length xs - 1) xs) ps ∙ front_of places (j ∷ []) 1 refl, ap (λ (xs : List ℕ). take (length xs - width) xs) rs ∙ front_of rows (zero_filled width symbol) width (sym long))
+    let long = length_filled width symbol (omega (arith, same, fits)) in (
+      ap (λ (xs : List ℕ). take (length xs - 1) xs) ps ∙ front_of places (j ∷ []) 1 refl,
+      ap (λ (xs : List ℕ). take (length xs - width) xs) rs ∙ front_of rows (zero_filled width symbol) width (sym long),
+    )

@@ -1,5 +1,7 @@
 -- A block in memory, as a map from places to rows.
-use Rattle.std.proofs.Common.{◌≡◌, ◌≢◌, ℕ, zero, suc, ◌+◌, ◌-◌, ◌*◌, ◌<◌, ◌≤◌, Bool, true, false, ◌||◌, cond, List, [], ◌∷◌, ◌++◌, length, get_or, take, drop, refl, sym, ap, subst, ◌∙◌, arith, All, AllPairs, Option, Some, None, eqb-true, append_assoc, replicate}
+use Rattle.std.proofs.Common.{◌≡◌, ◌≢◌, ℕ, zero, suc, ◌+◌, ◌-◌, ◌*◌, ◌<◌, ◌≤◌, Bool, true, false, ◌||◌, cond, List, [], ◌∷◌, ◌++◌}
+use Rattle.std.proofs.Common.{length, get_or, take, drop, refl, sym, ap, subst, ◌∙◌, arith, All, AllPairs, Option, Some, None}
+use Rattle.std.proofs.Common.{eqb-true, append_assoc, replicate}
 use Rattle.std.specs.Prelude.{if◌then◌else◌, is_some, ◌==◌, nat_le, option_map}
 use Rattle.std.specs.List.{list_any, position_from}
 use Rattle.std.specs.Ordering.{nat_cmp, eq_by_cmp}
@@ -28,10 +30,11 @@ is_among j places = list_any (λ p. p == j) places
 -- a place is found where it is among the places
 found_among : (size j : ℕ) (places rows : List ℕ) → is_some (find nat_cmp j (row_entries size places rows)) ≡ is_among j places
 found_among size j [] rows = refl
-found_among size j (p ∷ places) rows = elim (p == j) as (λ b. (p == j) ≡ b → is_some (cond (eq_by_cmp nat_cmp j p) (Some (take size rows)) (find nat_cmp j (row_entries size places (drop size rows)))) ≡ (b || is_among j places)) [
-  | true ↦ λ e. rw (tied_numbers j p ∙ e) refl
-  | false ↦ λ e. rw (tied_numbers j p ∙ e) (found_among size j places (drop size rows))
-] refl
+found_among size j (p ∷ places) rows = elim (p == j) as (λ b. (p == j) ≡ b
+    → is_some (cond (eq_by_cmp nat_cmp j p) (Some (take size rows)) (find nat_cmp j (row_entries size places (drop size rows)))) ≡ (b || is_among j places)) [
+      | true ↦ λ e. rw (tied_numbers j p ∙ e) refl
+      | false ↦ λ e. rw (tied_numbers j p ∙ e) (found_among size j places (drop size rows))
+    ] refl
 
 pub row_among : (size j : ℕ) (places rows : List ℕ) → is_some (get (rows_map size places rows) j) ≡ is_among j places
 unfolding rows_map
@@ -46,37 +49,49 @@ pub record StandsAt (size j : ℕ) (places rows row : List ℕ) : Type 0 where
 
 stands : (size j : ℕ) (places rows row : List ℕ) → find nat_cmp j (row_entries size places rows) ≡ Some row → StandsAt size j places rows row
 stands size j [] rows row e = absurd (let f : None ≡ Some row = e in cc)
-stands size j (p ∷ places) rows row e = elim (p == j) as (λ b. (p == j) ≡ b → cond (eq_by_cmp nat_cmp j p) (Some (take size rows)) (find nat_cmp j (row_entries size places (drop size rows))) ≡ Some row → StandsAt size j (p ∷ places) rows row) [
-  | true ↦ λ same f.
-      let here : Some (take size rows) ≡ Some row = rw (tied_numbers j p ∙ same) at f in
-      let first : 0 ≡ 0 * size = omega arith in
-      record { at = 0; less = omega arith; place = eqb-true p j same; is = (let r : row ≡ take size rows = cc in r) ∙ ap (λ (m : ℕ). take size (drop m rows)) first }
-  | false ↦ λ other f.
-      let later : find nat_cmp j (row_entries size places (drop size rows)) ≡ Some row = rw (tied_numbers j p ∙ other) at f in
-      let s = stands size j places (drop size rows) row later in
-      let next : size + s.at * size ≡ suc s.at * size = omega arith in
-      record { at = suc s.at; less = omega (arith, s.less); place = s.place; is = s.is ∙ ap (take size) (drop-drop (s.at * size) size rows ∙ ap (λ (m : ℕ). drop m rows) next) }
-] refl e
+stands size j (p ∷ places) rows row e = elim (p == j) as (λ b. (p == j) ≡ b → cond (eq_by_cmp nat_cmp j p) (Some (take size rows))
+    (find nat_cmp j (row_entries size places (drop size rows))) ≡ Some row → StandsAt size j (p ∷ places) rows row) [
+      | true ↦ λ same f.
+          let here : Some (take size rows) ≡ Some row = rw (tied_numbers j p ∙ same) at f in
+          let first : 0 ≡ 0 * size = omega arith in
+          record { at = 0; less = omega arith; place = eqb-true p j same; is = (let r : row ≡ take size rows = cc in r) ∙ ap (λ (m : ℕ). take size (drop m rows)) first }
+      | false ↦ λ other f.
+          let later : find nat_cmp j (row_entries size places (drop size rows)) ≡ Some row = rw (tied_numbers j p ∙ other) at f in
+          let s = stands size j places (drop size rows) row later in
+          let next : size + s.at * size ≡ suc s.at * size = omega arith in
+          record {
+            at = suc s.at;
+            less = omega (arith, s.less);
+            place = s.place;
+            is = s.is
+                ∙ ap (take size) (drop-drop (s.at * size) size rows ∙ ap (λ (m : ℕ). drop m rows) next);
+          }
+    ] refl e
 
 pub row_stands : (size j : ℕ) (places rows row : List ℕ) → get (rows_map size places rows) j ≡ Some row → StandsAt size j places rows row
 unfolding rows_map
 row_stands size j places rows row e = stands size j places rows row (sym (get-from_entries nat_cmp_total (row_entries size places rows) j) ∙ e)
 
 -- the row of a place, by the place's position
-found_at : (size j i : ℕ) (places rows : List ℕ) → find nat_cmp j (row_entries size places (drop (i * size) rows)) ≡ option_map (row_at size rows) (position_from (λ p. p == j) i places)
+found_at : (size j i : ℕ) (places rows : List ℕ)
+    → find nat_cmp j (row_entries size places (drop (i * size) rows)) ≡ option_map (row_at size rows) (position_from (λ p. p == j) i places)
 found_at size j i [] rows = refl
-found_at size j i (p ∷ places) rows = elim (p == j) as (λ b. (p == j) ≡ b → cond (eq_by_cmp nat_cmp j p) (Some (take size (drop (i * size) rows))) (find nat_cmp j (row_entries size places (drop size (drop (i * size) rows)))) ≡ option_map (row_at size rows) (cond b (Some i) (position_from (λ p. p == j) (i + 1) places))) [
-  | true ↦ λ e. rw (tied_numbers j p ∙ e) refl
-  | false ↦ λ e.
-      let next : i * size + size ≡ (i + 1) * size = omega arith in
-      rw (tied_numbers j p ∙ e) (ap (λ (xs : List ℕ). find nat_cmp j (row_entries size places xs)) (drop-drop size (i * size) rows ∙ ap (λ (m : ℕ). drop m rows) next) ∙ found_at size j (i + 1) places rows)
-] refl
+found_at size j i (p ∷ places) rows = elim (p == j) as (λ b. (p == j) ≡ b → cond (eq_by_cmp nat_cmp j p) (Some (take size (drop (i * size) rows)))
+    (find nat_cmp j (row_entries size places (drop size (drop (i * size) rows))))
+    ≡ option_map (row_at size rows) (cond b (Some i) (position_from (λ p. p == j) (i + 1) places))) [
+      | true ↦ λ e. rw (tied_numbers j p ∙ e) refl
+      | false ↦ λ e.
+          let next : i * size + size ≡ (i + 1) * size = omega arith in
+          rw (tied_numbers j p ∙ e) (ap (λ (xs : List ℕ). find nat_cmp j (row_entries size places xs))
+          (drop-drop size (i * size) rows ∙ ap (λ (m : ℕ). drop m rows) next) ∙ found_at size j (i + 1) places rows)
+    ] refl
 
 pub row_at_position : (size j : ℕ) (places rows : List ℕ) → get (rows_map size places rows) j ≡ option_map (row_at size rows) (position_from (λ p. p == j) 0 places)
 unfolding rows_map
 row_at_position size j places rows =
     let none : 0 ≡ 0 * size = omega arith in
-    get-from_entries nat_cmp_total (row_entries size places rows) j ∙ ap (λ (m : ℕ). find nat_cmp j (row_entries size places (drop m rows))) none ∙ found_at size j 0 places rows
+    get-from_entries nat_cmp_total (row_entries size places rows) j
+    ∙ ap (λ (m : ℕ). find nat_cmp j (row_entries size places (drop m rows))) none ∙ found_at size j 0 places rows
 
 -- a place that isn't among the places has no row
 none_of : (o : Option (List ℕ)) → is_some o ≡ false → o ≡ None
@@ -130,9 +145,11 @@ count_among n (p ∷ places) below different =
     elsewhere p j places ne = let e : (p == j) ≡ false = grind (arith, nat_tests) in rw e refl
 
 -- the symbols of a block in memory
-pub held_is_length : (k n size : ℕ) (places rows source : List ℕ) → IsBlock k n size places rows source → held_in (record { k = k; n = n; size = size; rows = rows_map size places rows }) ≡ length places
+pub held_is_length : (k n size : ℕ) (places rows source : List ℕ) → IsBlock k n size places rows source
+    → held_in (record { k = k; n = n; size = size; rows = rows_map size places rows }) ≡ length places
 held_is_length k n size places rows source is =
-    count_same n (λ j. is_some (get (rows_map size places rows) j)) (λ j. is_among j places) (λ j less. row_among size j places rows) ∙ count_among n places is.below is.different
+    count_same n (λ j. is_some (get (rows_map size places rows) j)) (λ j. is_among j places)
+    (λ j less. row_among size j places rows) ∙ count_among n places is.below is.different
 
 -- ---- one more row
 
@@ -147,7 +164,8 @@ apart_from j (p ∷ places) absent i d less = elim (p == j) as (λ b. (p == j) �
   | false ↦ λ other f. at_each p places i d less (λ e. let t : (p == j) ≡ true = grind (arith, nat_tests) in cc) (apart_from j places f)
 ] refl absent
   where
-    at_each : (p : ℕ) (places : List ℕ) (i d : ℕ) → i < length (p ∷ places) → p ≢ j → ((i : ℕ) (d : ℕ) → i < length places → get_or places i d ≢ j) → get_or (p ∷ places) i d ≢ j
+    at_each : (p : ℕ) (places : List ℕ) (i d : ℕ) → i < length (p ∷ places) → p ≢ j
+        → ((i : ℕ) (d : ℕ) → i < length places → get_or places i d ≢ j) → get_or (p ∷ places) i d ≢ j
     at_each p places zero d less first others = first
     at_each p places (suc i) d less first others = others i d (omega arith)
 
@@ -175,7 +193,8 @@ with_row k n size j places rows source row is less vacant wanting long =
       most = omega (arith, length-append places (j ∷ []), count, wanting);
       below = All-push (λ p. p < n) places j is.below less;
       different = all_pairs_push (λ x y. x ≢ y) places j is.different (λ i d lt. apart_from j places (not_among size j places rows vacant) i d lt);
-      whole = length-append rows row ∙ (let l = length-append places (j ∷ []) in let w = is.whole in let m : (length places + 1) * size ≡ length places * size + size = omega arith in omega (arith, l, w, m, long, ap (λ (m : ℕ). m * size) l));
+      whole = length-append rows row ∙ (let l = length-append places (j ∷ []) in let w = is.whole in
+          let m : (length places + 1) * size ≡ length places * size + size = omega arith in omega (arith, l, w, m, long, ap (λ (m : ℕ). m * size) l));
     }
 
 pub are_places : (k n size : ℕ) (places rows : List ℕ) → IsWith k n size places rows → ArePlaces places
@@ -186,7 +205,8 @@ are_places k n size places rows is = record {
   below = λ i d less. let b = is.below i d less in omega (arith, b, is.fits);
 }
 
-pub block_with : (k n size : ℕ) (places rows source : List ℕ) → IsWith k n size places rows → (length places ≡ k → IsSolution size places rows source) → IsBlock k n size places rows source
+pub block_with : (k n size : ℕ) (places rows source : List ℕ) → IsWith k n size places rows
+    → (length places ≡ k → IsSolution size places rows source) → IsBlock k n size places rows source
 block_with k n size places rows source is solved = record {
   some = is.some;
   wide = is.wide;
@@ -200,7 +220,8 @@ block_with k n size places rows source is solved = record {
 }
 
 -- the rows with one more
-entries_with : (size j : ℕ) (places rows row : List ℕ) → length rows ≡ length places * size → length row ≡ size → row_entries size (places ++ j ∷ []) (rows ++ row) ≡ row_entries size places rows ++ (j, row) ∷ []
+entries_with : (size j : ℕ) (places rows row : List ℕ) → length rows ≡ length places * size → length row ≡ size
+    → row_entries size (places ++ j ∷ []) (rows ++ row) ≡ row_entries size places rows ++ (j, row) ∷ []
 entries_with size j [] rows row whole long =
     let none : length rows ≡ 0 = omega (arith, whole) in
     let empty_rows : rows ≡ [] = nothing_listed rows none in
@@ -218,7 +239,8 @@ pub map_with : (size j : ℕ) (places rows row : List ℕ) → length rows ≡ l
 unfolding rows_map
 map_with size j places rows row whole long vacant =
     ap from_entries (entries_with size j places rows row whole long)
-    ∙ from_entries_push nat_cmp_total nat_cmp-IsAntisymmetric (row_entries size places rows) j row (sym (get-from_entries nat_cmp_total (row_entries size places rows) j) ∙ vacant)
+    ∙ from_entries_push nat_cmp_total nat_cmp-IsAntisymmetric (row_entries size places rows)
+    j row (sym (get-from_entries nat_cmp_total (row_entries size places rows) j) ∙ vacant)
 
 -- ---- the steps
 
@@ -230,20 +252,24 @@ missing_and places (suc m) = one_more (is_among m places) (missing_below places 
     one_more true x y m e = omega (arith, e)
     one_more false x y m e = omega (arith, e)
 
-steps_by_count : (count k missed sources : ℕ) → count ≤ k → (count ≡ k → missed + sources ≡ k) → (if count == k then missed * count else 0) ≡ (if nat_le k count then (k - sources) * k else 0)
-steps_by_count count k missed sources most split = elim (count == k) as (λ b. (count == k) ≡ b → (if b then missed * count else 0) ≡ (if nat_le k count then (k - sources) * k else 0)) [
-  | true ↦ λ e.
-      let same = eqb-true count k e in
-      let le : nat_le k count ≡ true = grind (arith, nat_tests) in
-      let sum = split same in
-      let left : k - sources ≡ missed = omega (arith, sum) in
-      rw (le, left, same) refl
-  | false ↦ λ e. let le : nat_le k count ≡ false = grind (arith, nat_tests) in rw le refl
-] refl
+steps_by_count : (count k missed sources : ℕ) → count ≤ k → (count ≡ k → missed + sources ≡ k)
+    → (if count == k then missed * count else 0) ≡ (if nat_le k count then (k - sources) * k else 0)
+steps_by_count count k missed sources most split = elim (count == k) as (λ b. (count == k) ≡ b
+    → (if b then missed * count else 0) ≡ (if nat_le k count then (k - sources) * k else 0)) [
+      | true ↦ λ e.
+          let same = eqb-true count k e in
+          let le : nat_le k count ≡ true = grind (arith, nat_tests) in
+          let sum = split same in
+          let left : k - sources ≡ missed = omega (arith, sum) in
+          rw (le, left, same) refl
+      | false ↦ λ e. let le : nat_le k count ≡ false = grind (arith, nat_tests) in rw le refl
+    ] refl
 
-pub held_with : (k n size : ℕ) (places rows : List ℕ) → IsWith k n size places rows → held_in (record { k = k; n = n; size = size; rows = rows_map size places rows }) ≡ length places
+pub held_with : (k n size : ℕ) (places rows : List ℕ) → IsWith k n size places rows
+    → held_in (record { k = k; n = n; size = size; rows = rows_map size places rows }) ≡ length places
 held_with k n size places rows is =
-    count_same n (λ j. is_some (get (rows_map size places rows) j)) (λ j. is_among j places) (λ j less. row_among size j places rows) ∙ count_among n places is.below is.different
+    count_same n (λ j. is_some (get (rows_map size places rows) j)) (λ j. is_among j places)
+    (λ j less. row_among size j places rows) ∙ count_among n places is.below is.different
 
 pub steps_with : (k n size : ℕ) (places rows : List ℕ) → IsWith k n size places rows
     → steps_when_full k places ≡ solving_steps (record { k = k; n = n; size = size; rows = rows_map size places rows })
@@ -258,7 +284,8 @@ steps_with k n size places rows is =
 
 -- ---- solved
 
-pub source_of : (k n size : ℕ) (places rows source : List ℕ) → IsBlock k n size places rows source → is_full (record { k = k; n = n; size = size; rows = rows_map size places rows }) ≡ true
+pub source_of : (k n size : ℕ) (places rows source : List ℕ) → IsBlock k n size places rows source
+    → is_full (record { k = k; n = n; size = size; rows = rows_map size places rows }) ≡ true
     → IsSource (record { k = k; n = n; size = size; rows = rows_map size places rows }) source
 source_of k n size places rows source is full =
     let count = held_is_length k n size places rows source is in

@@ -49,8 +49,10 @@ itself : (t b j : ℕ) → ((t == t) && ((b == b) && (j == j))) ≡ true
 itself t b j = grind (arith, nat_tests)
 
 -- another place is held as before
-pub held_elsewhere : (held : Held) (p : SymbolPacket) (t b j : ℕ) → (p.toi ≡ t → p.sbn ≡ b → p.esi ≡ j → ⊥) → is_held (joined held p) (place t b j) ≡ is_held held (place t b j)
-held_elsewhere held p t b j apart = ap is_some (row_joined held p t b j ∙ ap (λ x. cond x (Some (full p)) (row_at held (place t b j))) (another p.toi p.sbn p.esi t b j apart))
+pub held_elsewhere : (held : Held) (p : SymbolPacket) (t b j : ℕ) → (p.toi ≡ t → p.sbn ≡ b → p.esi ≡ j → ⊥)
+    → is_held (joined held p) (place t b j) ≡ is_held held (place t b j)
+held_elsewhere held p t b j apart = ap is_some (row_joined held p t b j
+    ∙ ap (λ x. cond x (Some (full p)) (row_at held (place t b j))) (another p.toi p.sbn p.esi t b j apart))
 
 -- the packet's place is held once it has joined
 held_here : (held : Held) (p : SymbolPacket) → is_held (joined held p) (place_of p) ≡ true
@@ -65,11 +67,13 @@ abbrev held_at : Held → ℕ → ℕ → ℕ → Bool
 held_at held t b j = is_held held (place t b j)
 
 -- another block has as many symbols as before
-pub symbols_elsewhere : (held : Held) (p : SymbolPacket) (t b : ℕ) (o : ObjectInformation) → (p.toi ≡ t → p.sbn ≡ b → ⊥) → symbols_held (joined held p) t o b ≡ symbols_held held t o b
+pub symbols_elsewhere : (held : Held) (p : SymbolPacket) (t b : ℕ) (o : ObjectInformation)
+    → (p.toi ≡ t → p.sbn ≡ b → ⊥) → symbols_held (joined held p) t o b ≡ symbols_held held t o b
 symbols_elsewhere held p t b o apart =
     let n = encoding_at o b in
     count_is_sum n (held_at (joined held p) t b)
-    ∙ sum_alike n (λ j. one_if (held_at held t b j)) (λ j. one_if (held_at (joined held p) t b j)) (λ j less. ap one_if (held_elsewhere held p t b j (λ x y z. apart x y)))
+    ∙ sum_alike n (λ j. one_if (held_at held t b j)) (λ j. one_if (held_at (joined held p) t b j))
+    (λ j less. ap one_if (held_elsewhere held p t b j (λ x y z. apart x y)))
     ∙ sym (count_is_sum n (held_at held t b))
 
 -- the packet's block has one more
@@ -110,7 +114,8 @@ added held p = (if symbols_held held p.toi p.oti p.sbn == 0 then 64 else 0) + p.
 -- the packet's object counts what the packet adds
 counted_here : (held : Held) (p : SymbolPacket) → IsFresh held p → counted (joined held p) (p.toi, p.oti) ≡ counted held (p.toi, p.oti) + added held p
 counted_here held p fresh =
-    let more = sum_with (blocks p.oti) (λ b. block_count p.oti (symbols_held held p.toi p.oti b)) (λ b. block_count p.oti (symbols_held (joined held p) p.toi p.oti b)) p.sbn (added held p) fresh.block
+    let more = sum_with (blocks p.oti) (λ b. block_count p.oti (symbols_held held p.toi p.oti b))
+    (λ b. block_count p.oti (symbols_held (joined held p) p.toi p.oti b)) p.sbn (added held p) fresh.block
     (ap (block_count p.oti) (symbols_here held p fresh) ∙ block_more p.oti (symbols_held held p.toi p.oti p.sbn))
     (λ b apart. ap (block_count p.oti) (symbols_elsewhere held p p.toi b p.oti (λ x y. apart (sym y)))) in
     omega (arith, more)
@@ -124,7 +129,8 @@ counted_unopened held p fresh closed =
     ap (λ s. 256 + s) (sum_zero (blocks p.oti) (λ b. block_count p.oti (symbols_held held p.toi p.oti b)) (λ b less. ap (block_count p.oti) (empty_block b)))
 
 -- what was counted and the charge are what is counted, whether the object was open or not
-with_charge : {X : Type 0} (found : Option X) (after before own block symbol : ℕ) → after + (if is_some found then own else 0) ≡ before + (own + (block + symbol)) → (found ≡ None → own ≡ 256)
+with_charge : {X : Type 0} (found : Option X) (after before own block symbol : ℕ)
+    → after + (if is_some found then own else 0) ≡ before + (own + (block + symbol)) → (found ≡ None → own ≡ 256)
     → after ≡ before + (((if is_some found then 0 else 256) + block) + symbol)
 with_charge None after before own block symbol e closed = omega (arith, closed refl)
 with_charge (Some x) after before own block symbol e closed = omega arith
@@ -137,7 +143,9 @@ joined_count held p fresh =
     let sums = sum_put (counted held) (counted (joined held p)) p.toi p.oti es (entries_sorted held.objects) (counted_elsewhere held p)
     (λ o found. fresh.agrees o (get-entries held.objects p.toi ∙ found)) in
     ap (sum_by (counted (joined held p))) (entries-insert nat_cmp_total held.objects p.toi p.oti)
-    ∙ with_charge (get held.objects p.toi) _ (sum_by (counted held) es) (counted held (p.toi, p.oti)) (if symbols_held held p.toi p.oti p.sbn == 0 then 64 else 0) p.oti.symbol
-    (ap (λ found. sum_by (counted (joined held p)) (put nat_cmp p.toi p.oti es) + (if is_some found then counted held (p.toi, p.oti) else 0)) (get-entries held.objects p.toi)
+    ∙ with_charge (get held.objects p.toi) _ (sum_by (counted held) es) (counted held (p.toi, p.oti))
+    (if symbols_held held p.toi p.oti p.sbn == 0 then 64 else 0) p.oti.symbol
+    (ap (λ found. sum_by (counted (joined held p)) (put nat_cmp p.toi p.oti es)
+    + (if is_some found then counted held (p.toi, p.oti) else 0)) (get-entries held.objects p.toi)
     ∙ sums ∙ ap (λ own. sum_by (counted held) es + own) (counted_here held p fresh))
     (counted_unopened held p fresh)

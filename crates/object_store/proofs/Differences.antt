@@ -1,5 +1,6 @@
 -- The first byte in which a row and a symbol differ.
-use Rattle.std.proofs.Common.{◌≡◌, ◌≢◌, ℕ, zero, suc, ◌+◌, ◌-◌, ◌<◌, ◌≤◌, Bool, true, false, cond, not, ◌&&◌, List, [], ◌∷◌, ◌++◌, length, get_or, drop, replicate, refl, sym, ap, ◌∙◌, arith, Option, Some, None}
+use Rattle.std.proofs.Common.{◌≡◌, ◌≢◌, ℕ, zero, suc, ◌+◌, ◌-◌, ◌<◌, ◌≤◌, Bool, true, false, cond, not, ◌&&◌, List, [], ◌∷◌, ◌++◌}
+use Rattle.std.proofs.Common.{length, get_or, drop, replicate, refl, sym, ap, ◌∙◌, arith, Option, Some, None}
 use Rattle.std.specs.Prelude.{is_some, ◌==◌, nat_le, unwrap_or, min}
 use Rattle.std.specs.List.{position_from, zip}
 use Rattle.std.specs.Str.{bytes_eq}
@@ -49,13 +50,15 @@ pairs row symbol = zip row (zero_filled (length row) symbol)
 
 -- from one pair to the next
 pub next_pair : (row symbol : List ℕ) (at : ℕ) → length symbol ≤ length row → at < length row
-    → position_from differ at (drop at (pairs row symbol)) ≡ cond (not (get_or row at 0 == get_or symbol at 0)) (Some at) (position_from differ (at + 1) (drop (at + 1) (pairs row symbol)))
+    → position_from differ at (drop at (pairs row symbol)) ≡ cond (not (get_or row at 0 == get_or symbol at 0))
+    (Some at) (position_from differ (at + 1) (drop (at + 1) (pairs row symbol)))
 next_pair row symbol at within less =
     let filled = length_filled (length row) symbol within in
     let many = length-zip row (zero_filled (length row) symbol) in
     let inside : at < length (pairs row symbol) = omega (arith, many, filled) in
     let lt : at < length (zero_filled (length row) symbol) = omega (arith, filled) in
-    let pair : get_or (pairs row symbol) at (0, 0) ≡ (get_or row at 0, get_or (zero_filled (length row) symbol) at 0) = get_or-zip row (zero_filled (length row) symbol) at (0, 0) less lt in
+    let pair : get_or (pairs row symbol) at (0, 0) ≡ (get_or row at 0, get_or (zero_filled (length row) symbol) at 0) =
+    get_or-zip row (zero_filled (length row) symbol) at (0, 0) less lt in
     ap (position_from differ at) (drop_more (pairs row symbol) at (0, 0) inside)
     ∙ ap (λ (p : ℕ × ℕ). cond (differ p) (Some at) (position_from differ (at + 1) (drop (at + 1) (pairs row symbol)))) pair
     ∙ ap (λ (y : ℕ). cond (not (get_or row at 0 == y)) (Some at) (position_from differ (at + 1) (drop (at + 1) (pairs row symbol)))) (filled_byte (length row) at symbol)

@@ -29,7 +29,13 @@ joins_object : (budget : ℕ) (m : FinMap nat_cmp ObjectHeld) (p : SymbolPacket)
 joins_object budget m p new = record {
   same = same;
   vacant = sym (get_row m p.toi p.sbn p.esi p.oti) ∙ new.vacant;
-  wanting = omega (arith, new.wanting, symbols_are m p.toi p.oti (object_at m p) refl p.sbn, ap (λ (u : ObjectInformation). symbols_held (held_of m) p.toi u p.sbn) same, ap (λ (u : ObjectInformation). size_at u p.sbn) same);
+  wanting = omega (
+    arith,
+    new.wanting,
+    symbols_are m p.toi p.oti (object_at m p) refl p.sbn,
+    ap (λ (u : ObjectInformation). symbols_held (held_of m) p.toi u p.sbn) same,
+    ap (λ (u : ObjectInformation). size_at u p.sbn) same,
+  );
 }
   where
     by_object : (r : Option ObjectHeld) → get m p.toi ≡ r → (unwrap_or r (new_object p.oti)).oti ≡ p.oti
@@ -53,7 +59,9 @@ entered budget m p is = record {
   held = held;
   verdict = says;
   ready = ready;
-  steps = ap (λ (k : Kept). if completes_block k then steps_for (joined (held_of m) p) p else 0) says ∙ ap (λ (c : ℕ). if is_block_done then_o p.sbn then c else 0) (ap (λ (n : ℕ). (size_at p.oti p.sbn - n) * size_at p.oti p.sbn) sources ∙ ap (λ (u : ObjectInformation). (size_at u p.sbn - sources_at then_o p.sbn) * size_at u p.sbn) (sym joins.same));
+  steps = ap (λ (k : Kept). if completes_block k then steps_for (joined (held_of m) p) p else 0) says
+      ∙ ap (λ (c : ℕ). if is_block_done then_o p.sbn then c else 0) (ap (λ (n : ℕ). (size_at p.oti p.sbn - n) * size_at p.oti p.sbn) sources
+      ∙ ap (λ (u : ObjectInformation). (size_at u p.sbn - sources_at then_o p.sbn) * size_at u p.sbn) (sym joins.same));
 }
   where
     new : IsNew budget (held_of m) p
@@ -72,13 +80,18 @@ entered budget m p is = record {
     here = object_then m p then_o p.oti
 
     block : is_block_ready (joined (held_of m) p) p.toi p.oti p.sbn ≡ is_block_done then_o p.sbn
-    block = ap (λ (h : Held). is_block_ready h p.toi p.oti p.sbn) (sym held) ∙ ap (λ (u : ObjectInformation). is_block_ready (held_of (insert m p.toi then_o)) p.toi u p.sbn) (sym joins.same) ∙ blocks_are (insert m p.toi then_o) p.toi p.oti then_o here p.sbn
+    block = ap (λ (h : Held). is_block_ready h p.toi p.oti p.sbn) (sym held)
+        ∙ ap (λ (u : ObjectInformation). is_block_ready (held_of (insert m p.toi then_o)) p.toi u p.sbn) (sym joins.same)
+        ∙ blocks_are (insert m p.toi then_o) p.toi p.oti then_o here p.sbn
 
     ready : is_ready (joined (held_of m) p) p.toi p.oti ≡ is_done then_o
-    ready = ap (λ (h : Held). is_ready h p.toi p.oti) (sym held) ∙ ap (is_ready (held_of (insert m p.toi then_o)) p.toi) (sym joins.same) ∙ ready_is_done (insert m p.toi then_o) p.toi p.oti then_o here
+    ready = ap (λ (h : Held). is_ready h p.toi p.oti) (sym held) ∙ ap (is_ready (held_of (insert m p.toi then_o)) p.toi) (sym joins.same)
+        ∙ ready_is_done (insert m p.toi then_o) p.toi p.oti then_o here
 
     sources : sources_held (joined (held_of m) p) p.toi p.oti p.sbn ≡ sources_at then_o p.sbn
-    sources = ap (λ (h : Held). sources_held h p.toi p.oti p.sbn) (sym held) ∙ ap (λ (u : ObjectInformation). sources_held (held_of (insert m p.toi then_o)) p.toi u p.sbn) (sym joins.same) ∙ sources_are (insert m p.toi then_o) p.toi p.oti then_o here p.sbn
+    sources = ap (λ (h : Held). sources_held h p.toi p.oti p.sbn) (sym held)
+        ∙ ap (λ (u : ObjectInformation). sources_held (held_of (insert m p.toi then_o)) p.toi u p.sbn) (sym joins.same)
+        ∙ sources_are (insert m p.toi then_o) p.toi p.oti then_o here p.sbn
 
     says : verdict budget (held_of m) p ≡ New (is_block_done then_o p.sbn) (is_done then_o)
     says = new.verdict ∙ ap (λ x. New x (is_ready (joined (held_of m) p) p.toi p.oti)) block ∙ ap (New (is_block_done then_o p.sbn)) ready
@@ -98,16 +111,19 @@ pub record IsStoreWith (budget count added : ℕ) (m more : BTreeMap ℕ ObjectH
   pub verdict : New block object ≡ verdict budget (held_of (map_of m)) p
   pub steps : steps_at (with_packet (object_in m p) p) p.sbn ≡ row_steps budget (held_of (map_of m)) p
 
-pub store_with : (budget count added : ℕ) (m more : BTreeMap ℕ ObjectHeld) (p : SymbolPacket) (ready : List ℕ) (block object : Bool) → IsStore budget count (held_of (map_of m)) ready → IsPacket p
+pub store_with : (budget count added : ℕ) (m more : BTreeMap ℕ ObjectHeld) (p : SymbolPacket)
+    (ready : List ℕ) (block object : Bool) → IsStore budget count (held_of (map_of m)) ready → IsPacket p
     → is_new (verdict budget (held_of (map_of m)) p) ≡ true → added ≡ charge (held_of (map_of m)) p → Updates nat_cmp m more p.toi (Some (with_packet (object_in m p) p))
-    → block ≡ is_block_done (with_packet (object_in m p) p) p.sbn → object ≡ is_done (with_packet (object_in m p) p) → IsStoreWith budget count added m more p ready block object
+    → block ≡ is_block_done (with_packet (object_in m p) p) p.sbn
+    → object ≡ is_done (with_packet (object_in m p) p) → IsStoreWith budget count added m more p ready block object
 store_with budget count added m more p ready block object holds is new adds updates block_is object_is = record {
   holds = record {
     counted = omega (arith, holds.counted, adds, joined_count held p fresh, ap byte_count held_is);
     within = omega (arith, holds.counted, adds, says.room);
     small = holds.small;
     listed = subst (λ (h : Held). IsListed h (if object then ready ++ p.toi ∷ [] else ready)) (sym held_is)
-        (subst (λ x. IsListed (joined held p) (if x then ready ++ p.toi ∷ [] else ready)) (entry.ready ∙ sym object_at_is) (listed_joined budget held p ready holds.pair is says holds.listed));
+        (subst (λ x. IsListed (joined held p) (if x then ready ++ p.toi ∷ [] else ready))
+        (entry.ready ∙ sym object_at_is) (listed_joined budget held p ready holds.pair is says holds.listed));
     pair = subst IsHeldPair (sym held_is) (pair_joined held p holds.pair is (fresh_of_new budget held p holds.pair is says) says.wanting);
   };
   held = held_is;
@@ -134,7 +150,8 @@ store_with budget count added m more p ready block object holds is new adds upda
     object_at_is = object_is ∙ ap (λ (o : ObjectHeld). is_done (with_packet o p)) (in_tree m p)
 
     held_is : held_of (map_of more) ≡ joined held p
-    held_is = ap held_of (map_updated m more p.toi (with_packet (object_in m p) p) updates ∙ ap (λ (o : ObjectHeld). insert (map_of m) p.toi (with_packet o p)) (in_tree m p)) ∙ entry.held
+    held_is = ap held_of (map_updated m more p.toi (with_packet (object_in m p) p) updates
+        ∙ ap (λ (o : ObjectHeld). insert (map_of m) p.toi (with_packet o p)) (in_tree m p)) ∙ entry.held
 
 -- the room that the verdict New leaves
 pub within_budget : (budget : ℕ) (held : Held) (p : SymbolPacket) → is_new (verdict budget held p) ≡ true → byte_count held + charge held p ≤ budget

@@ -1,10 +1,12 @@
 -- A map of objects, seen as the held pair: each look-up there is one of the object's.
-use Rattle.std.proofs.Common.{◌≡◌, ◌≢◌, ℕ, ◌+◌, ◌<◌, ◌≤◌, Bool, true, false, cond, ◌&&◌, List, [], ◌∷◌, ◌++◌, length, map, refl, sym, ap, subst, ◌∙◌, arith, Option, Some, None, eqb-true, option_map}
+use Rattle.std.proofs.Common.{◌≡◌, ◌≢◌, ℕ, ◌+◌, ◌<◌, ◌≤◌, Bool, true, false, cond, ◌&&◌, List, [], ◌∷◌, ◌++◌, length, map, refl}
+use Rattle.std.proofs.Common.{sym, ap, subst, ◌∙◌, arith, Option, Some, None, eqb-true, option_map}
 use Rattle.std.specs.Prelude.{T, is_some, ◌==◌, unwrap_or, option_and_then, nat_le, if◌then◌else◌}
 use Rattle.std.specs.Option.{option_or}
 use Rattle.std.specs.Ordering.{nat_cmp, eq_by_cmp}
 use Rattle.std.specs.Cmp.{nat_cmp_total}
-use Rattle.std.specs.FinMap.{FinMap, empty, get, insert, find, entries, entries_sorted, get-entries, get-from_entries, get-insert, get-empty, from_entries, len-entries, len-empty, same_map, nat_cmp-IsAntisymmetric}
+use Rattle.std.specs.FinMap.{FinMap, empty, get, insert, find, entries, entries_sorted, get-entries, get-from_entries, get-insert}
+use Rattle.std.specs.FinMap.{get-empty, from_entries, len-entries, len-empty, same_map, nat_cmp-IsAntisymmetric}
 use Rattle.std.specs.FinMap.Entries.{below_all, is_sorted}
 use Rattle.std.proofs.lemmas.Bool.Decides.{nat_tests}
 use Rattle.oti_blocks.specs.Partition.{ObjectInformation, encoding_at, blocks, size_at}
@@ -26,10 +28,11 @@ use Rattle.object_store.proofs.WithPacket.{row_here, block_elsewhere}
 
 find_either : (q : Place) (xs ys : List (Place × List ℕ)) → find place_cmp q (xs ++ ys) ≡ option_or (find place_cmp q xs) (find place_cmp q ys)
 find_either q [] ys = refl
-find_either q (x ∷ xs) ys = elim (eq_by_cmp place_cmp q x.0) as (λ b. cond b (Some x.1) (find place_cmp q (xs ++ ys)) ≡ option_or (cond b (Some x.1) (find place_cmp q xs)) (find place_cmp q ys)) [
-  | true ↦ refl
-  | false ↦ find_either q xs ys
-]
+find_either q (x ∷ xs) ys = elim (eq_by_cmp place_cmp q x.0) as (λ b. cond b (Some x.1)
+    (find place_cmp q (xs ++ ys)) ≡ option_or (cond b (Some x.1) (find place_cmp q xs)) (find place_cmp q ys)) [
+      | true ↦ refl
+      | false ↦ find_either q xs ys
+    ]
 
 or_none : (r : Option (List ℕ)) → option_or r None ≡ r
 or_none None = refl
@@ -57,7 +60,8 @@ find_flat {V = V} rows q k others (e ∷ es) sorted =
 find_block : (t b j : ℕ) (es : List (ℕ × List ℕ)) → find place_cmp (place t b j) (map (λ e. (place t b e.0, e.1)) es) ≡ find nat_cmp j es
 find_block t b j [] = refl
 find_block t b j (e ∷ es) =
-    ap (λ x. cond x (Some e.1) (find place_cmp (place t b j) (map (λ e. (place t b e.0, e.1)) es))) (tied_places t b j t b e.0 ∙ within t b e.0 j ∙ sym (tied_numbers j e.0))
+    ap (λ x. cond x (Some e.1) (find place_cmp (place t b j) (map (λ e. (place t b e.0, e.1)) es)))
+    (tied_places t b j t b e.0 ∙ within t b e.0 j ∙ sym (tied_numbers j e.0))
     ∙ ap (cond (eq_by_cmp nat_cmp j e.0) (Some e.1)) (find_block t b j es)
   where
     within : (t b u j : ℕ) → ((t == t) && ((b == b) && (u == j))) ≡ (u == j)
@@ -66,7 +70,8 @@ find_block t b j (e ∷ es) =
 find_elsewhere : (t b j u c : ℕ) (es : List (ℕ × List ℕ)) → ((u == t) && (c == b)) ≡ false → find place_cmp (place t b j) (map (λ e. (place u c e.0, e.1)) es) ≡ None
 find_elsewhere t b j u c [] apart = refl
 find_elsewhere t b j u c (e ∷ es) apart =
-    ap (λ x. cond x (Some e.1) (find place_cmp (place t b j) (map (λ e. (place u c e.0, e.1)) es))) (tied_places t b j u c e.0 ∙ not_there (u == t) (c == b) (e.0 == j) apart)
+    ap (λ x. cond x (Some e.1) (find place_cmp (place t b j) (map (λ e. (place u c e.0, e.1)) es)))
+    (tied_places t b j u c e.0 ∙ not_there (u == t) (c == b) (e.0 == j) apart)
     ∙ find_elsewhere t b j u c es apart
   where
     not_there : (x y z : Bool) → (x && y) ≡ false → (x && (y && z)) ≡ false
@@ -86,14 +91,16 @@ flat_elsewhere : (t b j u : ℕ) (es : List (ℕ × BlockHeld)) → (u == t) ≡
 flat_elsewhere t b j u [] apart = refl
 flat_elsewhere t b j u (e ∷ es) apart =
     find_either (place t b j) (block_rows u e.0 e.1) (flat (block_rows u) es)
-    ∙ ap (λ r. option_or r (find place_cmp (place t b j) (flat (block_rows u) es))) (find_elsewhere t b j u e.0 (entries e.1.rows) (other_object (u == t) (e.0 == b) apart))
+    ∙ ap (λ r. option_or r (find place_cmp (place t b j) (flat (block_rows u) es)))
+    (find_elsewhere t b j u e.0 (entries e.1.rows) (other_object (u == t) (e.0 == b) apart))
     ∙ flat_elsewhere t b j u es apart
 
 -- ---- the three look-ups
 
 row_of_object : (t b j : ℕ) (o : ObjectHeld) → find place_cmp (place t b j) (object_rows t o) ≡ object_row o b j
 row_of_object t b j o =
-    find_flat (block_rows t) (place t b j) b (λ c h apart. find_elsewhere t b j t c (entries h.rows) (other_block (t == t) (c == b) apart)) (entries o.parts) (entries_sorted o.parts)
+    find_flat (block_rows t) (place t b j) b (λ c h apart. find_elsewhere t b j t c (entries h.rows)
+    (other_block (t == t) (c == b) apart)) (entries o.parts) (entries_sorted o.parts)
     ∙ ap (option_and_then (λ h. find place_cmp (place t b j) (block_rows t b h))) (sym (get-entries o.parts b))
     ∙ in_block (get o.parts b)
   where
@@ -115,10 +122,11 @@ get_row m t b j d =
 
 find_information : (t : ℕ) (es : List (ℕ × ObjectHeld)) → find nat_cmp t (map (λ e. (e.0, e.1.oti)) es) ≡ option_map (λ o. o.oti) (find nat_cmp t es)
 find_information t [] = refl
-find_information t (e ∷ es) = elim (eq_by_cmp nat_cmp t e.0) as (λ b. cond b (Some e.1.oti) (find nat_cmp t (map (λ e. (e.0, e.1.oti)) es)) ≡ option_map (λ o. o.oti) (cond b (Some e.1) (find nat_cmp t es))) [
-  | true ↦ refl
-  | false ↦ find_information t es
-]
+find_information t (e ∷ es) = elim (eq_by_cmp nat_cmp t e.0) as (λ b. cond b (Some e.1.oti)
+    (find nat_cmp t (map (λ e. (e.0, e.1.oti)) es)) ≡ option_map (λ o. o.oti) (cond b (Some e.1) (find nat_cmp t es))) [
+      | true ↦ refl
+      | false ↦ find_information t es
+    ]
 
 pub get_information : (m : FinMap nat_cmp ObjectHeld) (t : ℕ) → get (held_of m).objects t ≡ option_map (λ o. o.oti) (get m t)
 unfolding held_of
@@ -146,13 +154,15 @@ module _ (m : FinMap nat_cmp ObjectHeld) (t : ℕ) (d : ObjectInformation) (o : 
 -- ---- with one more packet
 
 -- the objects with the packet's
-pub held_joined : (m : FinMap nat_cmp ObjectHeld) (p : SymbolPacket) → (object_at m p).oti ≡ p.oti → held_of (insert m p.toi (with_packet (object_at m p) p)) ≡ joined (held_of m) p
+pub held_joined : (m : FinMap nat_cmp ObjectHeld) (p : SymbolPacket) → (object_at m p).oti ≡ p.oti
+    → held_of (insert m p.toi (with_packet (object_at m p) p)) ≡ joined (held_of m) p
 held_joined m p same = λ i. record { objects = objects_are i; rows = rows_are i }
   where
     more : FinMap nat_cmp ObjectHeld
     more = insert m p.toi (with_packet (object_at m p) p)
 
-    open_one : (x : Bool) (r : Option ObjectHeld) → option_map (λ (o : ObjectHeld). o.oti) (cond x (Some (with_packet (object_at m p) p)) r) ≡ cond x (Some p.oti) (option_map (λ (o : ObjectHeld). o.oti) r)
+    open_one : (x : Bool) (r : Option ObjectHeld) → option_map (λ (o : ObjectHeld). o.oti)
+        (cond x (Some (with_packet (object_at m p) p)) r) ≡ cond x (Some p.oti) (option_map (λ (o : ObjectHeld). o.oti) r)
     open_one true r = ap (λ (u : ObjectInformation). Some u) same
     open_one false r = refl
 
@@ -164,29 +174,35 @@ held_joined m p same = λ i. record { objects = objects_are i; rows = rows_are i
         ∙ ap (cond (eq_by_cmp nat_cmp t p.toi) (Some p.oti)) (sym (get_information m t))
         ∙ sym (get-insert nat_cmp_total (held_of m).objects p.toi p.oti t))
 
-    in_its_object : (b j : ℕ) (x : Bool) → (p.sbn == b) ≡ x → object_row (with_packet (object_at m p) p) b j ≡ cond (x && (p.esi == j)) (Some (full p)) (object_row (object_at m p) b j)
+    in_its_object : (b j : ℕ) (x : Bool) → (p.sbn == b) ≡ x
+        → object_row (with_packet (object_at m p) p) b j ≡ cond (x && (p.esi == j)) (Some (full p)) (object_row (object_at m p) b j)
     in_its_object b j true here = ap (λ (c : ℕ). object_row (with_packet (object_at m p) p) c j) (sym (eqb-true p.sbn b here)) ∙ row_here (object_at m p) p j
         ∙ ap (λ (c : ℕ). cond (p.esi == j) (Some (full p)) (object_row (object_at m p) c j)) (eqb-true p.sbn b here)
-    in_its_object b j false there = ap (λ (h : BlockHeld). get h.rows j) (block_elsewhere (object_at m p) p b (λ e. let t : (p.sbn == b) ≡ true = grind (arith, nat_tests) in cc))
+    in_its_object b j false there = ap (λ (h : BlockHeld). get h.rows j)
+        (block_elsewhere (object_at m p) p b (λ e. let t : (p.sbn == b) ≡ true = grind (arith, nat_tests) in cc))
 
     row_is : (t b j : ℕ) (x : Bool) → (p.toi == t) ≡ x → object_row (unwrap_or (cond x (Some (with_packet (object_at m p) p)) (get m t)) (new_object p.oti)) b j
         ≡ cond (x && ((p.sbn == b) && (p.esi == j))) (Some (full p)) (object_row (unwrap_or (get m t) (new_object p.oti)) b j)
-    row_is t b j true here = in_its_object b j (p.sbn == b) refl ∙ ap (λ (u : ℕ). cond ((p.sbn == b) && (p.esi == j)) (Some (full p)) (object_row (unwrap_or (get m u) (new_object p.oti)) b j)) (eqb-true p.toi t here)
+    row_is t b j true here = in_its_object b j (p.sbn == b) refl
+        ∙ ap (λ (u : ℕ). cond ((p.sbn == b) && (p.esi == j)) (Some (full p)) (object_row (unwrap_or (get m u) (new_object p.oti)) b j)) (eqb-true p.toi t here)
     row_is t b j false there = refl
 
     rows_are : (held_of more).rows ≡ insert (held_of m).rows (place_of p) (full p)
     rows_are = same_map place_total place_exact (held_of more).rows (insert (held_of m).rows (place_of p) (full p)) (λ q.
         get_row more q.toi q.sbn q.esi p.oti
         ∙ ap (λ (r : Option ObjectHeld). object_row (unwrap_or r (new_object p.oti)) q.sbn q.esi)
-        (get-insert nat_cmp_total m p.toi (with_packet (object_at m p) p) q.toi ∙ ap (λ x. cond x (Some (with_packet (object_at m p) p)) (get m q.toi)) (tied_numbers q.toi p.toi))
+        (get-insert nat_cmp_total m p.toi (with_packet (object_at m p) p) q.toi
+        ∙ ap (λ x. cond x (Some (with_packet (object_at m p) p)) (get m q.toi)) (tied_numbers q.toi p.toi))
         ∙ row_is q.toi q.sbn q.esi (p.toi == q.toi) refl
         ∙ ap (cond ((p.toi == q.toi) && ((p.sbn == q.sbn) && (p.esi == q.esi))) (Some (full p))) (sym (get_row m q.toi q.sbn q.esi p.oti))
         ∙ sym (row_joined (held_of m) p q.toi q.sbn q.esi))
 
 -- the packet's object then
-pub object_then : (m : FinMap nat_cmp ObjectHeld) (p : SymbolPacket) (o : ObjectHeld) (d : ObjectInformation) → unwrap_or (get (insert m p.toi o) p.toi) (new_object d) ≡ o
+pub object_then : (m : FinMap nat_cmp ObjectHeld) (p : SymbolPacket) (o : ObjectHeld)
+    (d : ObjectInformation) → unwrap_or (get (insert m p.toi o) p.toi) (new_object d) ≡ o
 object_then m p o d =
-    ap (λ (r : Option ObjectHeld). unwrap_or r (new_object d)) (get-insert nat_cmp_total m p.toi o p.toi ∙ ap (λ x. cond x (Some o) (get m p.toi)) (tied_numbers p.toi p.toi ∙ itself p.toi))
+    ap (λ (r : Option ObjectHeld). unwrap_or r (new_object d)) (get-insert nat_cmp_total m p.toi o p.toi
+    ∙ ap (λ x. cond x (Some o) (get m p.toi)) (tied_numbers p.toi p.toi ∙ itself p.toi))
   where
     itself : (t : ℕ) → (t == t) ≡ true
     itself t = grind (arith, nat_tests)
@@ -194,4 +210,5 @@ object_then m p o d =
 -- nothing is held of no objects
 pub held_of_none : held_of empty ≡ nothing_held
 unfolding held_of
-held_of_none = ap (λ (es : List (ℕ × ObjectHeld)). record { objects = from_entries (map (λ e. (e.0, e.1.oti)) es); rows = from_entries (flat object_rows es) }) (nothing_listed (entries empty) (sym (len-entries empty) ∙ len-empty nat_cmp ObjectHeld))
+held_of_none = ap (λ (es : List (ℕ × ObjectHeld)). record { objects = from_entries (map (λ e. (e.0, e.1.oti)) es); rows = from_entries (flat object_rows es) })
+    (nothing_listed (entries empty) (sym (len-entries empty) ∙ len-empty nat_cmp ObjectHeld))

@@ -1,5 +1,6 @@
 -- The source rows of an object's blocks, one block after another.
-use Rattle.std.proofs.Common.{◌≡◌, ◌≢◌, ℕ, zero, suc, ◌+◌, ◌-◌, ◌*◌, ◌<◌, ◌≤◌, Bool, true, false, List, [], ◌∷◌, ◌++◌, length, take, drop, refl, sym, ap, subst, ◌∙◌, arith, Option, Some, None, eqb-true}
+use Rattle.std.proofs.Common.{◌≡◌, ◌≢◌, ℕ, zero, suc, ◌+◌, ◌-◌, ◌*◌, ◌<◌, ◌≤◌, Bool, true, false, List, [], ◌∷◌, ◌++◌, length}
+use Rattle.std.proofs.Common.{take, drop, refl, sym, ap, subst, ◌∙◌, arith, Option, Some, None, eqb-true}
 use Rattle.std.specs.Prelude.{◌==◌, nat_le}
 use Rattle.std.specs.FinMap.{get}
 use Rattle.std.proofs.lemmas.List.{take-append-le, drop-append-le, drop_at, length-drop, length-append}
@@ -32,7 +33,8 @@ no_rows_below o bytes none = record {
 }
 
 -- one block more
-pub rows_next : (o : ObjectHeld) (n : ℕ) (h : BlockHeld) (bytes source : List ℕ) → IsSound o.oti → n < blocks o.oti → AreRowsBelow o n bytes → block_at o n ≡ h → IsShaped o.oti n h → IsSource h source
+pub rows_next : (o : ObjectHeld) (n : ℕ) (h : BlockHeld) (bytes source : List ℕ) → IsSound o.oti
+    → n < blocks o.oti → AreRowsBelow o n bytes → block_at o n ≡ h → IsShaped o.oti n h → IsSource h source
     → AreRowsBelow o (n + 1) (bytes ++ source)
 rows_next o n h bytes source sound less are here shaped is =
     let e = o.oti.symbol in
@@ -56,7 +58,9 @@ rows_next o n h bytes source sound less are here shaped is =
             let l = are.long in
             let front : start_at o.oti b * e ≤ length bytes = omega (arith, l, inside, parts) in
             let rest : size_at o.oti b * e ≤ length (drop (start_at o.oti b * e) bytes) = omega (arith, l, inside, parts, length-drop (start_at o.oti b * e) bytes) in
-            subst (λ (rs : List (List ℕ)). IsSymbolRow rs e j row) (sym (ap (cut (size_at o.oti b) e) (drop-append-le (start_at o.oti b * e) bytes source front) ∙ cut_front (size_at o.oti b) e (drop (start_at o.oti b * e) bytes) source rest))
+            subst (λ (rs : List (List ℕ)). IsSymbolRow rs e j row)
+            (sym (ap (cut (size_at o.oti b) e) (drop-append-le (start_at o.oti b * e) bytes source front)
+            ∙ cut_front (size_at o.oti b) e (drop (start_at o.oti b * e) bytes) source rest))
             (are.symbols b j row before found)
       ] refl;
     }
@@ -65,7 +69,8 @@ rows_next o n h bytes source sound less are here shaped is =
     earlier b n lt other = grind (arith, nat_tests)
 
 -- the room for one block more
-pub room_for_next : (o : ObjectHeld) (n : ℕ) (h : BlockHeld) (bytes source : List ℕ) → IsSound o.oti → n < blocks o.oti → AreRowsBelow o n bytes → IsShaped o.oti n h → IsSource h source
+pub room_for_next : (o : ObjectHeld) (n : ℕ) (h : BlockHeld) (bytes source : List ℕ)
+    → IsSound o.oti → n < blocks o.oti → AreRowsBelow o n bytes → IsShaped o.oti n h → IsSource h source
     → length bytes + length source ≤ sources o.oti * o.oti.symbol
 room_for_next o n h bytes source sound less are shaped is =
     let e = o.oti.symbol in
@@ -77,7 +82,8 @@ room_for_next o n h bytes source sound less are shaped is =
 -- a block of a done object has k symbols
 pub full_when_done : (o : ObjectHeld) (b : ℕ) → is_done o ≡ true → b < blocks o.oti → IsShaped o.oti b (block_at o b) → is_full (block_at o b) ≡ true
 full_when_done o b done less shaped =
-    ap (λ (k : ℕ). nat_le k (held_in (block_at o b))) shaped.k ∙ ap (nat_le (size_at o.oti b)) (held_is_symbols o b shaped) ∙ passes_below (blocks o.oti) b (is_block_done o) done less
+    ap (λ (k : ℕ). nat_le k (held_in (block_at o b))) shaped.k ∙ ap (nat_le (size_at o.oti b))
+    (held_is_symbols o b shaped) ∙ passes_below (blocks o.oti) b (is_block_done o) done less
 
 -- and is open
 pub open_when_done : (o : ObjectHeld) (b : ℕ) → IsSound o.oti → is_done o ≡ true → b < blocks o.oti → block_at o b ≡ unopened o.oti b → ⊥

@@ -27,18 +27,23 @@ use Rattle.object_store.proofs.WithPacket.{none_in}
 use Rattle.object_store.proofs.HeldView.{get_information, held_here, symbols_are}
 
 -- within the budget it is New, and else OverBudget
-judged_by_budget : (budget count charge : ℕ) (new : Kept) → is_new new ≡ true → IsJudged (if nat_lt budget (count + charge) then OverBudget count charge else new) charge (by_budget budget count charge)
-judged_by_budget budget count charge new is = elim (nat_lt budget (count + charge)) as (λ b. IsJudged (if b then OverBudget count charge else new) charge (if b then Stays (OverBudget count charge) else Joins charge)) [
-  | true ↦ (refl, refl)
-  | false ↦ (is, refl)
-]
+judged_by_budget : (budget count charge : ℕ) (new : Kept) → is_new new ≡ true
+    → IsJudged (if nat_lt budget (count + charge) then OverBudget count charge else new) charge (by_budget budget count charge)
+judged_by_budget budget count charge new is = elim (nat_lt budget (count + charge))
+    as (λ b. IsJudged (if b then OverBudget count charge else new) charge (if b then Stays (OverBudget count charge) else Joins charge)) [
+      | true ↦ (refl, refl)
+      | false ↦ (is, refl)
+    ]
 
 -- on a row or a vacant place
-judged_on_row : (budget : ℕ) (held : Held) (p : SymbolPacket) (opening : ℕ) (r : Option (List ℕ)) → charge held p ≡ (opening + (if symbols_held held p.toi p.oti p.sbn == 0 then 64 else 0)) + p.oti.symbol
-    → IsJudged (verdict_on_row budget held p r) (charge held p) (by_finding budget (byte_count held) opening p (finding_on (size_at p.oti p.sbn) (symbols_held held p.toi p.oti p.sbn) (full p) r))
+judged_on_row : (budget : ℕ) (held : Held) (p : SymbolPacket) (opening : ℕ) (r : Option (List ℕ))
+    → charge held p ≡ (opening + (if symbols_held held p.toi p.oti p.sbn == 0 then 64 else 0)) + p.oti.symbol
+    → IsJudged (verdict_on_row budget held p r) (charge held p)
+    (by_finding budget (byte_count held) opening p (finding_on (size_at p.oti p.sbn) (symbols_held held p.toi p.oti p.sbn) (full p) r))
 judged_on_row budget held p opening (Some row) adds = either (bytes_eq row (full p)) (first_difference row (full p))
   where
-    either : (x : Bool) (at : ℕ) → IsJudged (if x then Repeat else SymbolDiffers at) (charge held p) (by_finding budget (byte_count held) opening p (if x then Same else Differs at))
+    either : (x : Bool) (at : ℕ) → IsJudged (if x then Repeat else SymbolDiffers at)
+        (charge held p) (by_finding budget (byte_count held) opening p (if x then Same else Differs at))
     either true at = (refl, refl)
     either false at = (refl, refl)
 judged_on_row budget held p opening None adds =
@@ -46,7 +51,8 @@ judged_on_row budget held p opening None adds =
     (if x then Spare else if nat_lt budget (byte_count held + charge held p) then OverBudget (byte_count held) (charge held p) else new_in (joined held p) p)
     (charge held p) (by_finding budget (byte_count held) opening p (if x then Full else Wanting (symbols_held held p.toi p.oti p.sbn)))) [
       | true ↦ (refl, refl)
-      | false ↦ subst (λ (c : ℕ). IsJudged (if nat_lt budget (byte_count held + charge held p) then OverBudget (byte_count held) (charge held p) else new_in (joined held p) p) (charge held p) (by_budget budget (byte_count held) c)) adds
+      | false ↦ subst (λ (c : ℕ). IsJudged (if nat_lt budget (byte_count held + charge held p) then OverBudget (byte_count held)
+          (charge held p) else new_in (joined held p) p) (charge held p) (by_budget budget (byte_count held) c)) adds
           (judged_by_budget budget (byte_count held) (charge held p) (new_in (joined held p) p) refl)
     ]
 
@@ -60,7 +66,8 @@ judged_unheld budget m p is closed =
     let here : unwrap_or (get m p.toi) (new_object p.oti) ≡ new_object p.oti = ap (λ (r : Option ObjectHeld). unwrap_or r (new_object p.oti)) closed in
     let shut : block_at (new_object p.oti) p.sbn ≡ unopened p.oti p.sbn = ap (λ (r : Option BlockHeld). unwrap_or r (unopened p.oti p.sbn)) (get-empty nat_cmp p.sbn) in
     let none : symbols_held held p.toi p.oti p.sbn ≡ 0 = symbols_are m p.toi p.oti (new_object p.oti) here p.sbn ∙ none_in (new_object p.oti) p.sbn shut in
-    let vacant : row_at held (place_of p) ≡ None = held_here m p.toi p.oti (new_object p.oti) here p.sbn p.esi ∙ ap (λ (h : BlockHeld). get h.rows p.esi) shut ∙ get-empty nat_cmp p.esi in
+    let vacant : row_at held (place_of p) ≡ None = held_here m p.toi p.oti (new_object p.oti) here p.sbn p.esi
+    ∙ ap (λ (h : BlockHeld). get h.rows p.esi) shut ∙ get-empty nat_cmp p.esi in
     let adds : charge held p ≡ (256 + (if symbols_held held p.toi p.oti p.sbn == 0 then 64 else 0)) + p.oti.symbol =
     ap (λ (r : Option ObjectInformation). ((if is_some r then 0 else 256) + (if symbols_held held p.toi p.oti p.sbn == 0 then 64 else 0)) + p.oti.symbol) information in
     let some = (size_bounds p.oti is.sound p.sbn is.block).0 in
@@ -83,12 +90,14 @@ judged_held budget m p o open_o =
     let adds : charge held p ≡ (0 + (if symbols_held held p.toi p.oti p.sbn == 0 then 64 else 0)) + p.oti.symbol =
     ap (λ (r : Option ObjectInformation). ((if is_some r then 0 else 256) + (if symbols_held held p.toi p.oti p.sbn == 0 then 64 else 0)) + p.oti.symbol) information in
     subst (λ (k : Kept). IsJudged k (charge held p) (judged_in budget (byte_count held) o p)) (sym (ap (verdict_on_object budget held p) information))
-    (elim (same_information o.oti p.oti) as (λ x. same_information o.oti p.oti ≡ x → IsJudged (if x then verdict_on_row budget held p (row_at held (place_of p)) else OtiDiffers o.oti) (charge held p)
+    (elim (same_information o.oti p.oti) as (λ x. same_information o.oti p.oti ≡ x
+    → IsJudged (if x then verdict_on_row budget held p (row_at held (place_of p)) else OtiDiffers o.oti) (charge held p)
     (if x then by_finding budget (byte_count held) 0 p (finding_at o p) else Stays (OtiDiffers o.oti))) [
       | true ↦ λ same.
           let equal = same_is_equal o.oti p.oti same in
           let row = held_here m p.toi p.oti o here p.sbn p.esi in
-          let count : symbols_held held p.toi p.oti p.sbn ≡ symbols_in o p.sbn = ap (λ (u : ObjectInformation). symbols_held held p.toi u p.sbn) (sym equal) ∙ symbols_are m p.toi p.oti o here p.sbn in
+          let count : symbols_held held p.toi p.oti p.sbn ≡ symbols_in o p.sbn =
+          ap (λ (u : ObjectInformation). symbols_held held p.toi u p.sbn) (sym equal) ∙ symbols_are m p.toi p.oti o here p.sbn in
           subst (λ (f : Finding). IsJudged (verdict_on_row budget held p (row_at held (place_of p))) (charge held p) (by_finding budget (byte_count held) 0 p f))
           (ap (λ (n : ℕ). finding_on (size_at p.oti p.sbn) n (full p) (row_at held (place_of p))) count
           ∙ ap (finding_on (size_at p.oti p.sbn) (symbols_in o p.sbn) (full p)) row

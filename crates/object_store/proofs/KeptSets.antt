@@ -39,7 +39,8 @@ after_list s budget held set [] session ends are = ends
 after_list s budget held set (p ∷ ps) session ends are =
     let left = leaves s budget held set p session ends.agrees ends.within (All-head (IsOf s) p ps are) in
     subst (Ends s budget (fold (step budget) (step budget held p) ps)) (kept_in_front budget held set p ps)
-    (after_list s budget (step budget held p) (set_after set p (verdict budget held p)) ps session (record { agrees = left.agrees; within = left.within }) (All-tail (IsOf s) p ps are))
+    (after_list s budget (step budget held p) (set_after set p (verdict budget held p)) ps
+    session (record { agrees = left.agrees; within = left.within }) (All-tail (IsOf s) p ps are))
 
 -- nothing agrees with nothing
 pub nothing_agrees : (s : Session) → Agrees s nothing_held nothing_held
@@ -74,9 +75,12 @@ pub record Grows (s : Session) (held set : Held) : Type 0 where
   pub agrees : Agrees s larger set
   pub more : byte_count held ≤ byte_count larger
 
-grows_found : (s : Session) (budget : ℕ) (held set : Held) (p : SymbolPacket) → Agrees s held set → IsPacket p → Belongs s p → Found budget held p → Grows s held (joined set p)
-grows_found s budget held set p agrees packet belongs (FoundRepeat open_ is e) = record { larger = held; agrees = join_set s held set p agrees packet belongs open_ (inl is); more = omega arith }
-grows_found s budget held set p agrees packet belongs (FoundSpare open_ full_ e) = record { larger = held; agrees = join_set s held set p agrees packet belongs open_ (inr full_); more = omega arith }
+grows_found : (s : Session) (budget : ℕ) (held set : Held) (p : SymbolPacket) → Agrees s held set
+    → IsPacket p → Belongs s p → Found budget held p → Grows s held (joined set p)
+grows_found s budget held set p agrees packet belongs (FoundRepeat open_ is e) =
+    record { larger = held; agrees = join_set s held set p agrees packet belongs open_ (inl is); more = omega arith }
+grows_found s budget held set p agrees packet belongs (FoundSpare open_ full_ e) =
+    record { larger = held; agrees = join_set s held set p agrees packet belongs open_ (inr full_); more = omega arith }
 grows_found s budget held set p agrees packet belongs (FoundOver fresh wanting over e) =
     record { larger = joined held p; agrees = join_both s held set p agrees packet belongs fresh wanting; more = omega (arith, joined_count held p fresh) }
 grows_found s budget held set p agrees packet belongs (FoundNew fresh wanting room e) =
@@ -99,7 +103,8 @@ set_grows s held set ps session agrees are =
 at_most_is : (n m : ℕ) → n ≤ m → nat_le n m ≡ true
 at_most_is n m h = grind (arith, nat_tests)
 
-all_kept_from : (s : Session) (budget : ℕ) (held set : Held) (ps : List SymbolPacket) → IsSession s → Ends s budget held set → AreOf s ps → set_count (fold joined set ps) ≤ budget → kept_from budget held ps ≡ ps
+all_kept_from : (s : Session) (budget : ℕ) (held set : Held) (ps : List SymbolPacket) → IsSession s
+    → Ends s budget held set → AreOf s ps → set_count (fold joined set ps) ≤ budget → kept_from budget held ps ≡ ps
 all_kept_from s budget held set [] session ends are room = refl
 all_kept_from s budget held set (p ∷ ps) session ends are room =
     let is = All-head (IsOf s) p ps are in
@@ -109,7 +114,8 @@ all_kept_from s budget held set (p ∷ ps) session ends are room =
     let fits : set_count (joined set p) ≤ budget = omega (arith, set_grows s one.larger (joined set p) ps session one.agrees rest, room) in
     let test : is_kept (verdict budget held p) ≡ true = left.fits ∙ at_most_is (set_count (joined set p)) budget fits in
     let same : set_after set p (verdict budget held p) ≡ joined set p = ap (λ b. if b then joined set p else set) test in
-    let again = all_kept_from s budget (step budget held p) (joined set p) ps session (record { agrees = subst (Agrees s (step budget held p)) same left.agrees; within = left.within }) rest room in
+    let again = all_kept_from s budget (step budget held p) (joined set p) ps
+    session (record { agrees = subst (Agrees s (step budget held p)) same left.agrees; within = left.within }) rest room in
     ap (λ b. if b then p ∷ kept_from budget (step budget held p) ps else kept_from budget (step budget held p) ps) test ∙ ap (λ qs. p ∷ qs) again
 
 pub all_kept : (s : Session) (budget : ℕ) (ps : List SymbolPacket) → IsSession s → AreOf s ps → set_count (gathered ps) ≤ budget → kept budget ps ≡ ps
@@ -126,14 +132,17 @@ one_of_two (OtiDiffers o) is = absurd is
 one_of_two (SymbolDiffers at) is = absurd is
 one_of_two (OverBudget count charge) is = refl
 
-kept_or_dropped_from : (s : Session) (budget : ℕ) (held set : Held) (ps : List SymbolPacket) → IsSession s → Ends s budget held set → AreOf s ps → drops_from budget held ps + length (kept_from budget held ps) ≡ length ps
+kept_or_dropped_from : (s : Session) (budget : ℕ) (held set : Held) (ps : List SymbolPacket) → IsSession s
+    → Ends s budget held set → AreOf s ps → drops_from budget held ps + length (kept_from budget held ps) ≡ length ps
 kept_or_dropped_from s budget held set [] session ends are = omega arith
 kept_or_dropped_from s budget held set (p ∷ ps) session ends are =
     let left = leaves s budget held set p session ends.agrees ends.within (All-head (IsOf s) p ps are) in
-    let rest = kept_or_dropped_from s budget (step budget held p) (set_after set p (verdict budget held p)) ps session (record { agrees = left.agrees; within = left.within }) (All-tail (IsOf s) p ps are) in
+    let rest = kept_or_dropped_from s budget (step budget held p) (set_after set p (verdict budget held p))
+    ps session (record { agrees = left.agrees; within = left.within }) (All-tail (IsOf s) p ps are) in
     omega (arith, one_of_two (verdict budget held p) left.no_difference, rest, counted (is_kept (verdict budget held p)))
   where
-    counted : (b : Bool) → length (if b then p ∷ kept_from budget (step budget held p) ps else kept_from budget (step budget held p) ps) ≡ (if b then 1 else 0) + length (kept_from budget (step budget held p) ps)
+    counted : (b : Bool) → length (if b then p ∷ kept_from budget (step budget held p) ps else kept_from budget (step budget held p) ps) ≡
+        (if b then 1 else 0) + length (kept_from budget (step budget held p) ps)
     counted true = omega arith
     counted false = omega arith
 

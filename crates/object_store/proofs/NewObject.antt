@@ -21,10 +21,12 @@ nothing_done o b sound less = ap (nat_le (size_at o b)) (none_in (new_object o) 
     not_yet : (k : ℕ) → 1 ≤ k → nat_le k 0 ≡ false
     not_yet k some = grind (arith, nat_tests)
 
-pub new_object_holds : (o : ObjectInformation) (waiting : ℕ) (bytes : List ℕ) → IsSound o → 1 ≤ blocks o → waiting ≡ blocks o → bytes ≡ [] → IsObject (new_object o) waiting bytes
+pub new_object_holds : (o : ObjectInformation) (waiting : ℕ) (bytes : List ℕ) → IsSound o
+    → 1 ≤ blocks o → waiting ≡ blocks o → bytes ≡ [] → IsObject (new_object o) waiting bytes
 new_object_holds o waiting bytes sound some all none = record {
   shaped = λ b. subst (IsShaped o b) (sym (closed o b)) (record { k = refl; n = refl; size = refl });
   counted = omega (arith, all, count_none (blocks o) (is_block_done (new_object o)) (λ b less. nothing_done o b sound less));
   waits = λ not_done. none;
-  joined = λ done. absurd (let f = not_all_below (blocks o) 0 (is_block_done (new_object o)) some (nothing_done o 0 sound some) in let g : true ≡ false = sym done ∙ f in cc);
+  joined = λ done. absurd (let f = not_all_below (blocks o) 0 (is_block_done (new_object o)) some (nothing_done o 0 sound some) in
+      let g : true ≡ false = sym done ∙ f in cc);
 }

@@ -20,7 +20,8 @@ nothing_listed (x ∷ xs) e = absurd (omega arith)
 -- nothing counts nothing
 pub nothing_counted : byte_count nothing_held ≡ 0
 unfolding byte_count
-nothing_counted = ap (sum_by (λ e. object_count nothing_held e.0 e.1)) (nothing_listed (entries (nothing_held.objects)) (sym (len-entries nothing_held.objects) ∙ len-empty nat_cmp ObjectInformation))
+nothing_counted = ap (sum_by (λ e. object_count nothing_held e.0 e.1))
+    (nothing_listed (entries (nothing_held.objects)) (sym (len-entries nothing_held.objects) ∙ len-empty nat_cmp ObjectInformation))
 
 pub nothing_open : (t : ℕ) → get nothing_held.objects t ≡ None
 nothing_open t = get-empty nat_cmp t

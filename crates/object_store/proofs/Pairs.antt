@@ -1,5 +1,6 @@
 -- What holds of each held pair that packets leave, of a session or not.
-use Rattle.std.proofs.Common.{◌≡◌, ◌≢◌, ℕ, ◌<◌, ◌≤◌, true, false, ◌==◌, List, [], ◌∷◌, length, fold, ◌∙◌, refl, sym, ap, subst, arith, Option, Some, None, All, inl, inr, eqb-true}
+use Rattle.std.proofs.Common.{◌≡◌, ◌≢◌, ℕ, ◌<◌, ◌≤◌, true, false, ◌==◌, List, [], ◌∷◌, length, fold, ◌∙◌, refl, sym, ap, subst}
+use Rattle.std.proofs.Common.{arith, Option, Some, None, All, inl, inr, eqb-true}
 use Rattle.std.specs.Prelude.{is_some, if◌then◌else◌}
 use Rattle.std.specs.FinMap.{get}
 use Rattle.std.proofs.lemmas.Bool.Decides.{nat_tests}
@@ -61,7 +62,8 @@ was : (held : Held) (p : SymbolPacket) (t : ℕ) (o : ObjectInformation) → get
 was held p t o = with_object held p t (λ i. i ≡ Some o → Was held p t o) (λ at is. IsPackets at (one_value p.oti o is)) (λ e is. WasOpen is)
 
 -- a row held before is within its object
-row_within : (held : Held) (p : SymbolPacket) (t b j : ℕ) (row : List ℕ) (o : ObjectInformation) → IsHeldPair held → IsFresh held p → row_at held (place t b j) ≡ Some row → Was held p t o
+row_within : (held : Held) (p : SymbolPacket) (t b j : ℕ) (row : List ℕ) (o : ObjectInformation)
+    → IsHeldPair held → IsFresh held p → row_at held (place t b j) ≡ Some row → Was held p t o
     → (b < blocks o) × (j < encoding_at o b) × (length row ≡ o.symbol)
 row_within held p t b j row o pair fresh is (WasOpen open_) = pair.within t b j row o is open_
 row_within held p t b j row o pair fresh is (IsPackets at same) =
@@ -73,7 +75,8 @@ row_within held p t b j row o pair fresh is (IsPackets at same) =
     ] refl
 
 -- of a packet that has joined at its place
-packet_within : (p : SymbolPacket) (t b j : ℕ) (row : List ℕ) (o : ObjectInformation) → IsPacket p → IsThere p t b j → p.oti ≡ o → full p ≡ row → (b < blocks o) × (j < encoding_at o b) × (length row ≡ o.symbol)
+packet_within : (p : SymbolPacket) (t b j : ℕ) (row : List ℕ) (o : ObjectInformation) → IsPacket p
+    → IsThere p t b j → p.oti ≡ o → full p ≡ row → (b < blocks o) × (j < encoding_at o b) × (length row ≡ o.symbol)
 packet_within p t b j row o packet at same is =
     let block : p.sbn < blocks o = subst (λ i. p.sbn < blocks i) same packet.block in
     let esi : p.esi < encoding_at o p.sbn = subst (λ i. p.esi < encoding_at i p.sbn) same packet.place in (
@@ -83,7 +86,8 @@ packet_within p t b j row o packet at same is =
     )
 
 -- no block of the packet's object has more symbols than source symbols
-most_of_packets : (held : Held) (p : SymbolPacket) (b : ℕ) → IsHeldPair held → IsFresh held p → symbols_held held p.toi p.oti p.sbn < size_at p.oti p.sbn → symbols_held (joined held p) p.toi p.oti b ≤ size_at p.oti b
+most_of_packets : (held : Held) (p : SymbolPacket) (b : ℕ) → IsHeldPair held → IsFresh held p
+    → symbols_held held p.toi p.oti p.sbn < size_at p.oti p.sbn → symbols_held (joined held p) p.toi p.oti b ≤ size_at p.oti b
 most_of_packets held p b pair fresh wanting = elim (p.sbn == b) as (λ c. (p.sbn == b) ≡ c → symbols_held (joined held p) p.toi p.oti b ≤ size_at p.oti b) [
   | true ↦ λ e. subst (λ n. symbols_held (joined held p) p.toi p.oti n ≤ size_at p.oti n) (eqb-true p.sbn b e) (omega (arith, symbols_here held p fresh, wanting))
   | false ↦ λ e. elim (get held.objects p.toi) as (λ i. get held.objects p.toi ≡ i → symbols_held (joined held p) p.toi p.oti b ≤ size_at p.oti b) [
@@ -96,19 +100,23 @@ most_of_packets held p b pair fresh wanting = elim (p.sbn == b) as (λ c. (p.sbn
   ] refl
 ] refl
 
-most_joined : (held : Held) (p : SymbolPacket) (t b : ℕ) (o : ObjectInformation) → IsHeldPair held → IsFresh held p → symbols_held held p.toi p.oti p.sbn < size_at p.oti p.sbn → Was held p t o
+most_joined : (held : Held) (p : SymbolPacket) (t b : ℕ) (o : ObjectInformation) → IsHeldPair held
+    → IsFresh held p → symbols_held held p.toi p.oti p.sbn < size_at p.oti p.sbn → Was held p t o
     → symbols_held (joined held p) t o b ≤ size_at o b
 most_joined held p t b o pair fresh wanting (IsPackets at same) =
-    subst (λ n. symbols_held (joined held p) n o b ≤ size_at o b) at (subst (λ i. symbols_held (joined held p) p.toi i b ≤ size_at i b) same (most_of_packets held p b pair fresh wanting))
+    subst (λ n. symbols_held (joined held p) n o b ≤ size_at o b)
+    at (subst (λ i. symbols_held (joined held p) p.toi i b ≤ size_at i b) same (most_of_packets held p b pair fresh wanting))
 most_joined held p t b o pair fresh wanting (WasOpen open_) = elim (p.toi == t) as (λ c. (p.toi == t) ≡ c → symbols_held (joined held p) t o b ≤ size_at o b) [
   | true ↦ λ e.
       let at = eqb-true p.toi t e in
       let same : p.oti ≡ o = sym (fresh.agrees o (ap (get held.objects) at ∙ open_)) in
-      subst (λ n. symbols_held (joined held p) n o b ≤ size_at o b) at (subst (λ i. symbols_held (joined held p) p.toi i b ≤ size_at i b) same (most_of_packets held p b pair fresh wanting))
+      subst (λ n. symbols_held (joined held p) n o b ≤ size_at o b)
+      at (subst (λ i. symbols_held (joined held p) p.toi i b ≤ size_at i b) same (most_of_packets held p b pair fresh wanting))
   | false ↦ λ e. omega (arith, symbols_elsewhere held p t b o (λ same other. differ p.toi t e same), pair.most t b o open_)
 ] refl
 
-pub pair_joined : (held : Held) (p : SymbolPacket) → IsHeldPair held → IsPacket p → IsFresh held p → symbols_held held p.toi p.oti p.sbn < size_at p.oti p.sbn → IsHeldPair (joined held p)
+pub pair_joined : (held : Held) (p : SymbolPacket) → IsHeldPair held → IsPacket p → IsFresh held p
+    → symbols_held held p.toi p.oti p.sbn < size_at p.oti p.sbn → IsHeldPair (joined held p)
 pair_joined held p pair packet fresh wanting = record {
   sound = λ t o. with_object held p t (λ i. i ≡ Some o → IsSound o) (λ at is. subst IsSound (one_value p.oti o is) packet.sound) (λ e is. pair.sound t o is);
   opened = λ t b j row. with_row held p t b j (λ r. r ≡ Some row → is_some (get (joined held p).objects t) ≡ true)
@@ -123,14 +131,16 @@ pair_joined held p pair packet fresh wanting = record {
 
 -- one packet more, whatever its verdict
 pub pair_after : (budget : ℕ) (held : Held) (p : SymbolPacket) → IsHeldPair held → IsPacket p → IsHeldPair (step budget held p)
-pair_after budget held p pair packet = elim (is_new (verdict budget held p)) as (λ b. is_new (verdict budget held p) ≡ b → IsHeldPair (if b then joined held p else held)) [
-  | true ↦ λ e. let new = new_says budget held p e in pair_joined held p pair packet (fresh_of_new budget held p pair packet new) new.wanting
-  | false ↦ λ e. pair
-] refl
+pair_after budget held p pair packet = elim (is_new (verdict budget held p))
+    as (λ b. is_new (verdict budget held p) ≡ b → IsHeldPair (if b then joined held p else held)) [
+      | true ↦ λ e. let new = new_says budget held p e in pair_joined held p pair packet (fresh_of_new budget held p pair packet new) new.wanting
+      | false ↦ λ e. pair
+    ] refl
 
 pub pair_after_list : (budget : ℕ) (held : Held) (ps : List SymbolPacket) → IsHeldPair held → All IsPacket ps → IsHeldPair (fold (step budget) held ps)
 pair_after_list budget held [] pair are = pair
-pair_after_list budget held (p ∷ ps) pair are = pair_after_list budget (step budget held p) ps (pair_after budget held p pair (All-head IsPacket p ps are)) (All-tail IsPacket p ps are)
+pair_after_list budget held (p ∷ ps) pair are = pair_after_list budget (step budget held p)
+    ps (pair_after budget held p pair (All-head IsPacket p ps are)) (All-tail IsPacket p ps are)
 
 pub held_is_pair : (budget : ℕ) (ps : List SymbolPacket) → All IsPacket ps → IsHeldPair (held_after budget ps)
 held_is_pair budget ps are = pair_after_list budget nothing_held ps nothing_pair are

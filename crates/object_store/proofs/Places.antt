@@ -10,7 +10,8 @@ use Rattle.object_store.specs.Held.{Place, place, place_cmp}
 
 -- places are in a total order
 pub place_total : IsTotalOrder place_cmp
-place_total = then_total (on_total (λ (p : Place). p.toi) nat_cmp_total) (then_total (on_total (λ (p : Place). p.sbn) nat_cmp_total) (on_total (λ (p : Place). p.esi) nat_cmp_total))
+place_total = then_total (on_total (λ (p : Place). p.toi) nat_cmp_total)
+    (then_total (on_total (λ (p : Place). p.sbn) nat_cmp_total) (on_total (λ (p : Place). p.esi) nat_cmp_total))
 
 -- an order by two keys says Equal where both do
 both_equal : (o p : Ordering) → ordering_then o p ≡ Equal → (o ≡ Equal) × (p ≡ Equal)

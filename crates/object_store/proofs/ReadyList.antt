@@ -1,5 +1,6 @@
 -- The list of ready objects, once a packet has joined.
-use Rattle.std.proofs.Common.{◌≡◌, ℕ, ◌<◌, ◌≤◌, Bool, true, false, cond, ◌||◌, not, List, [], ◌∷◌, ◌++◌, take, refl, sym, ap, subst, ◌∙◌, arith, Option, Some, None, eqb-true}
+use Rattle.std.proofs.Common.{◌≡◌, ℕ, ◌<◌, ◌≤◌, Bool, true, false, cond, ◌||◌, not, List, [], ◌∷◌, ◌++◌, take, refl, sym, ap}
+use Rattle.std.proofs.Common.{subst, ◌∙◌, arith, Option, Some, None, eqb-true}
 use Rattle.std.specs.Prelude.{is_some, ◌==◌, nat_le, if◌then◌else◌}
 use Rattle.std.specs.FinMap.{get}
 use Rattle.std.proofs.lemmas.Bool.{and_parts}
@@ -42,11 +43,13 @@ ready_elsewhere held p t (Some o) apart = all_same (blocks o) (is_block_ready (j
     (λ b less. ap (nat_le (size_at o b)) (symbols_elsewhere held p t b o (λ u c. let g : (p.toi == t) ≡ true = grind (arith, nat_tests) in cc)))
 
 -- the packet's object wasn't
-not_ready_before : (held : Held) (p : SymbolPacket) (r : Option ObjectInformation) → get held.objects p.toi ≡ r → IsPacket p → IsFresh held p → symbols_held held p.toi p.oti p.sbn < size_at p.oti p.sbn
+not_ready_before : (held : Held) (p : SymbolPacket) (r : Option ObjectInformation) → get held.objects p.toi ≡ r
+    → IsPacket p → IsFresh held p → symbols_held held p.toi p.oti p.sbn < size_at p.oti p.sbn
     → is_whole held p.toi r ≡ false
 not_ready_before held p None closed is fresh wanting = refl
 not_ready_before held p (Some o) open_o is fresh wanting =
-    ap (is_ready held p.toi) (fresh.agrees o open_o) ∙ not_all_below (blocks p.oti) p.sbn (is_block_ready held p.toi p.oti) is.block (fewer (size_at p.oti p.sbn) (symbols_held held p.toi p.oti p.sbn) wanting)
+    ap (is_ready held p.toi) (fresh.agrees o open_o) ∙ not_all_below (blocks p.oti) p.sbn (is_block_ready held p.toi p.oti)
+    is.block (fewer (size_at p.oti p.sbn) (symbols_held held p.toi p.oti p.sbn) wanting)
   where
     fewer : (k n : ℕ) → n < k → nat_le k n ≡ false
     fewer k n less = grind (arith, nat_tests)
@@ -113,9 +116,12 @@ listed_joined budget held p ready pair is new listed = record { listed = λ t. b
         or_false false = refl
     others t false apart = refl
 
-    by_object : (t : ℕ) (x : Bool) → (p.toi == t) ≡ x → is_some (whole (joined held p) t) ≡ is_in t (if is_ready (joined held p) p.toi p.oti then ready ++ p.toi ∷ [] else ready)
-    by_object t true here = subst (λ (u : ℕ). is_some (whole (joined held p) u) ≡ is_in u (if is_ready (joined held p) p.toi p.oti then ready ++ p.toi ∷ [] else ready)) (eqb-true p.toi t here)
-        (whole_is_some (joined held p) p.toi ∙ ap (is_whole (joined held p) p.toi) (object_joined held p p.toi ∙ ap (λ x. cond x (Some p.oti) (get held.objects p.toi)) (itself p.toi))
+    by_object : (t : ℕ) (x : Bool) → (p.toi == t) ≡ x → is_some (whole (joined held p) t)
+        ≡ is_in t (if is_ready (joined held p) p.toi p.oti then ready ++ p.toi ∷ [] else ready)
+    by_object t true here = subst (λ (u : ℕ). is_some (whole (joined held p) u)
+        ≡ is_in u (if is_ready (joined held p) p.toi p.oti then ready ++ p.toi ∷ [] else ready)) (eqb-true p.toi t here)
+        (whole_is_some (joined held p) p.toi ∙ ap (is_whole (joined held p) p.toi)
+        (object_joined held p p.toi ∙ ap (λ x. cond x (Some p.oti) (get held.objects p.toi)) (itself p.toi))
         ∙ its_own (is_ready (joined held p) p.toi p.oti))
       where
         itself : (t : ℕ) → (t == t) ≡ true

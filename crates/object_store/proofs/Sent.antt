@@ -70,10 +70,12 @@ same_ready s held set t x agrees sent =
     (λ fewer. same_symbols s held set t b x agrees sent fewer))
 
 -- an object that isn't open isn't ready: nothing of its first block is held
-unopened_not_ready : (s : Session) (held set : Held) (t : ℕ) (x : Sent) → Agrees s held set → s t ≡ Some x → IsSent x → get held.objects t ≡ None → is_ready held t x.oti ≡ false
+unopened_not_ready : (s : Session) (held set : Held) (t : ℕ) (x : Sent) → Agrees s held set
+    → s t ≡ Some x → IsSent x → get held.objects t ≡ None → is_ready held t x.oti ≡ false
 unopened_not_ready s held set t x agrees sent is closed =
     let some = size_bounds x.oti is.sound 0 (blocks_pos x.oti is.sound) in
-    let none : symbols_held held t x.oti 0 ≡ 0 = count_none (encoding_at x.oti 0) (λ j. is_held held (place t 0 j)) (λ j less. vacant (row_at held (place t 0 j)) (λ row found.
+    let none : symbols_held held t x.oti 0 ≡ 0 = count_none (encoding_at x.oti 0)
+    (λ j. is_held held (place t 0 j)) (λ j less. vacant (row_at held (place t 0 j)) (λ row found.
     let open_ = agrees.opened t 0 j row x (agrees.rows t 0 j row found) sent in
     let both : None ≡ Some x.oti = sym closed ∙ open_ in cc)) in
     not_all_below (blocks x.oti) 0 (is_block_ready held t x.oti) (blocks_pos x.oti is.sound) (ap (nat_le (size_at x.oti 0)) none ∙ above (size_at x.oti 0) some.0)
@@ -93,7 +95,8 @@ unfolding filled
 front_of x = front_filled (sources x.oti * x.oti.symbol) x.bytes
 
 -- of an object that is open
-open_is : (s : Session) (held set : Held) (t : ℕ) (o : ObjectInformation) → IsSession s → Agrees s held set → get held.objects t ≡ Some o → whole held t ≡ ready_objects s set t
+open_is : (s : Session) (held set : Held) (t : ℕ) (o : ObjectInformation) → IsSession s
+    → Agrees s held set → get held.objects t ≡ Some o → whole held t ≡ ready_objects s set t
 unfolding whole ready_objects
 open_is s held set t o session agrees open_ =
     let sent = agrees.sent t o open_ in
@@ -118,7 +121,8 @@ closed_is s held set t session agrees closed =
     ap (bytes_when_ready held t) closed
     ∙ elim (s t) as (λ o. s t ≡ o → None ≡ sent_when_ready set t o) [
       | None ↦ λ e. refl
-      | Some x ↦ λ e. sym (ap (λ b. if b then Some x.bytes else None) (sym (same_ready s held set t x agrees e) ∙ unopened_not_ready s held set t x agrees e (session t x e) closed))
+      | Some x ↦ λ e. sym (ap (λ b. if b then Some x.bytes else None)
+          (sym (same_ready s held set t x agrees e) ∙ unopened_not_ready s held set t x agrees e (session t x e) closed))
     ] refl
 
 -- what is whole is what was sent of the objects that are ready in the set
@@ -128,5 +132,6 @@ whole_is s held set t session agrees = elim (get held.objects t) as (λ o. get h
   | Some o ↦ λ e. open_is s held set t o session agrees e
 ] refl
 
-pub whole_is_sent : (s : Session) (budget : ℕ) (ps : List SymbolPacket) (t : ℕ) → IsSession s → AreOf s ps → whole (held_after budget ps) t ≡ ready_objects s (gathered (kept budget ps)) t
+pub whole_is_sent : (s : Session) (budget : ℕ) (ps : List SymbolPacket) (t : ℕ) → IsSession s
+    → AreOf s ps → whole (held_after budget ps) t ≡ ready_objects s (gathered (kept budget ps)) t
 whole_is_sent s budget ps t session are = whole_is s (held_after budget ps) (gathered (kept budget ps)) t session (ends_of s budget ps session are).agrees

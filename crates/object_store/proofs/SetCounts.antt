@@ -1,5 +1,6 @@
 -- The byte count of the kept set is that of the held pair.
-use Rattle.std.proofs.Common.{◌≡◌, ℕ, ◌+◌, ◌<◌, ◌≤◌, min, Bool, true, false, cond, ◌&&◌, ◌==◌, List, [], ◌∷◌, ◌∙◌, refl, sym, ap, subst, arith, inl, inr, Option, Some, None}
+use Rattle.std.proofs.Common.{◌≡◌, ℕ, ◌+◌, ◌<◌, ◌≤◌, min, Bool, true, false, cond, ◌&&◌, ◌==◌, List, [], ◌∷◌, ◌∙◌, refl, sym, ap}
+use Rattle.std.proofs.Common.{subst, arith, inl, inr, Option, Some, None}
 use Rattle.std.specs.Prelude.{T, is_some}
 use Rattle.std.specs.List.{sum_by}
 use Rattle.std.specs.Ordering.{nat_cmp, eq_by_cmp}
@@ -30,12 +31,19 @@ later t o e es low found = elim (eq_by_cmp nat_cmp t e.0) as (λ b. eq_by_cmp na
   tied x y h = grind (arith, nat_tests)
 
 -- sums whose terms agree for each entry that is found
-sum_found : {X : Type 0} (f g : ℕ × X → ℕ) (es : List (ℕ × X)) → T (is_sorted nat_cmp es) → ((t : ℕ) (o : X) → find nat_cmp t es ≡ Some o → g (t, o) ≡ f (t, o)) → sum_by g es ≡ sum_by f es
+sum_found : {X : Type 0} (f g : ℕ × X → ℕ) (es : List (ℕ × X)) → T (is_sorted nat_cmp es)
+    → ((t : ℕ) (o : X) → find nat_cmp t es ≡ Some o → g (t, o) ≡ f (t, o)) → sum_by g es ≡ sum_by f es
 sum_found f g [] sorted agree = refl
 sum_found f g (e ∷ es) sorted agree =
     let parts = both_hold (below_all nat_cmp e.0 es) (is_sorted nat_cmp es) sorted in
     let here : g (e.0, e.1) ≡ f (e.0, e.1) = agree e.0 e.1 (ap (λ b. cond b (Some e.1) (find nat_cmp e.0 es)) (itself e.0)) in
-    omega (arith, sum_by-cons g e es, sum_by-cons f e es, here, sum_found f g es parts.1 (λ t o found. agree t o (ap (λ b. cond b (Some e.1) (find nat_cmp t es)) (later t o e es parts.0 found) ∙ found)))
+    omega (
+      arith,
+      sum_by-cons g e es,
+      sum_by-cons f e es,
+      here,
+      sum_found f g es parts.1 (λ t o found. agree t o (ap (λ b. cond b (Some e.1) (find nat_cmp t es)) (later t o e es parts.0 found) ∙ found)),
+    )
   where
     both_hold : (a b : Bool) → T (a && b) → T a × T b
     both_hold true true h = (tt, tt)
@@ -78,12 +86,14 @@ more_in_set s held set t b o agrees =
     there (Some row) n more e = ap is_some (more row refl)
 
 -- a block that isn't full has as many symbols in both
-pub same_symbols : (s : Session) (held set : Held) (t b : ℕ) (x : Sent) → Agrees s held set → s t ≡ Some x → symbols_held held t x.oti b < size_at x.oti b → symbols_held set t x.oti b ≡ symbols_held held t x.oti b
+pub same_symbols : (s : Session) (held set : Held) (t b : ℕ) (x : Sent) → Agrees s held set → s t ≡ Some x
+    → symbols_held held t x.oti b < size_at x.oti b → symbols_held set t x.oti b ≡ symbols_held held t x.oti b
 same_symbols s held set t b x agrees sent fewer =
     count_same (encoding_at x.oti b) (λ j. is_held set (place t b j)) (λ j. is_held held (place t b j)) (λ j within. ap is_some (agrees.same t b x sent fewer j))
 
 -- one object
-object_is : (s : Session) (held set : Held) (t : ℕ) (o : ObjectInformation) → IsSession s → Agrees s held set → get held.objects t ≡ Some o → object_total set t o ≡ object_count held t o
+object_is : (s : Session) (held set : Held) (t : ℕ) (o : ObjectInformation) → IsSession s
+    → Agrees s held set → get held.objects t ≡ Some o → object_total set t o ≡ object_count held t o
 object_is s held set t o session agrees open_ =
     let sent = agrees.sent t o open_ in
     let x = sent.0 in
@@ -92,7 +102,8 @@ object_is s held set t o session agrees open_ =
     (λ b less. capped_is o (size_at o b) (symbols_held held t o b) (symbols_held set t o b) (size_bounds o sound b less).0
     (subst (λ i. symbols_held held t i b ≤ size_at i b) (sym sent.2) (agrees.most t b x sent.1))
     (more_in_set s held set t b o agrees)
-    (λ fewer. subst (λ i. symbols_held held t i b < size_at i b → symbols_held set t i b ≡ symbols_held held t i b) (sym sent.2) (same_symbols s held set t b x agrees sent.1) fewer)))
+    (λ fewer. subst (λ i. symbols_held held t i b < size_at i b → symbols_held set t i b ≡ symbols_held held t i b)
+    (sym sent.2) (same_symbols s held set t b x agrees sent.1) fewer)))
 
 -- the count of what is held is that of the set
 pub counts_agree : (s : Session) (held set : Held) → IsSession s → Agrees s held set → byte_count held ≡ set_count set

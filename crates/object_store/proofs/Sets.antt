@@ -40,7 +40,8 @@ one_row_more set p t b j = with_row set p t b j (λ r. is_some r ≡ (is_some (r
     (λ test. sym (ap (λ c. is_some (row_at set (place t b j)) || c) test ∙ or_true (is_some (row_at set (place t b j)))))
     (λ test. sym (ap (λ c. is_some (row_at set (place t b j)) || c) test ∙ or_false (is_some (row_at set (place t b j)))))
 
-has_row : (set : Held) (ps : List SymbolPacket) (t b j : ℕ) → is_some (row_at (fold joined set ps) (place t b j)) ≡ (is_some (row_at set (place t b j)) || list_any (λ p. at_place p t b j) ps)
+has_row : (set : Held) (ps : List SymbolPacket) (t b j : ℕ)
+    → is_some (row_at (fold joined set ps) (place t b j)) ≡ (is_some (row_at set (place t b j)) || list_any (λ p. at_place p t b j) ps)
 has_row set [] t b j = sym (or_false (is_some (row_at set (place t b j))))
 has_row set (p ∷ ps) t b j =
     has_row (joined set p) ps t b j
@@ -121,13 +122,15 @@ there_by_list ps t b j = has_row nothing_held ps t b j ∙ ap (λ o. is_some o |
 open_by_list : (ps : List SymbolPacket) (t : ℕ) → is_some (get (gathered ps).objects t) ≡ list_any (λ p. p.toi == t) ps
 open_by_list ps t = has_object nothing_held ps t ∙ ap (λ o. is_some o || list_any (λ p. p.toi == t) ps) (nothing_open t)
 
-same_rows : (s : Session) (ps qs : List SymbolPacket) → AreOf s ps → AreOf s qs → AreOneSet ps qs → (t b j : ℕ) → row_at (gathered ps) (place t b j) ≡ row_at (gathered qs) (place t b j)
+same_rows : (s : Session) (ps qs : List SymbolPacket) → AreOf s ps → AreOf s qs → AreOneSet ps qs
+    → (t b j : ℕ) → row_at (gathered ps) (place t b j) ≡ row_at (gathered qs) (place t b j)
 same_rows s ps qs first second one t b j = same_options (row_at (gathered ps) (place t b j)) (row_at (gathered qs) (place t b j))
     (there_by_list ps t b j ∙ same_any (λ p. at_place p t b j) ps qs (place_for_one t b j) one ∙ sym (there_by_list qs t b j))
     (λ row other is also. same_symbol s t b j row other ((gathering s ps first).agrees.symbols t b j row is) ((gathering s qs second).agrees.symbols t b j other also))
 
 -- the information of an object that is open
-information : (s : Session) (ps : List SymbolPacket) (t : ℕ) (o : ObjectInformation) → AreOf s ps → get (gathered ps).objects t ≡ Some o → (x : Sent) × (s t ≡ Some x) × (o ≡ x.oti)
+information : (s : Session) (ps : List SymbolPacket) (t : ℕ) (o : ObjectInformation)
+    → AreOf s ps → get (gathered ps).objects t ≡ Some o → (x : Sent) × (s t ≡ Some x) × (o ≡ x.oti)
 information s ps t o are is = let g = gathering s ps are in g.agrees.sent t o (ap (λ m. get m t) (sym g.agrees.objects) ∙ is)
 
 same_objects : (s : Session) (ps qs : List SymbolPacket) → AreOf s ps → AreOf s qs → AreOneSet ps qs → (t : ℕ) → get (gathered ps).objects t ≡ get (gathered qs).objects t
@@ -160,11 +163,13 @@ pub same_whole : (s : Session) (budget : ℕ) (ps qs : List SymbolPacket) → Is
     → whole (held_after budget ps) t ≡ whole (held_after budget qs) t
 same_whole s budget ps qs session first second one t =
     whole_is_sent s budget ps t session first
-    ∙ ap (λ set. ready_objects s set t) (one_gathered s (kept budget ps) (kept budget qs) (kept_are_of s budget nothing_held ps first) (kept_are_of s budget nothing_held qs second) one)
+    ∙ ap (λ set. ready_objects s set t) (one_gathered s (kept budget ps) (kept budget qs)
+    (kept_are_of s budget nothing_held ps first) (kept_are_of s budget nothing_held qs second) one)
     ∙ sym (whole_is_sent s budget qs t session second)
 
 -- and within the budget any order does, with any repeats
-pub any_order : (s : Session) (budget : ℕ) (ps qs : List SymbolPacket) → IsSession s → AreOf s ps → AreOf s qs → AreOneSet ps qs → set_count (gathered ps) ≤ budget → (t : ℕ)
+pub any_order : (s : Session) (budget : ℕ) (ps qs : List SymbolPacket) → IsSession s
+    → AreOf s ps → AreOf s qs → AreOneSet ps qs → set_count (gathered ps) ≤ budget → (t : ℕ)
     → whole (held_after budget ps) t ≡ whole (held_after budget qs) t
 any_order s budget ps qs session first second one room t =
     let also : set_count (gathered qs) ≤ budget = subst (λ set. set_count set ≤ budget) (one_gathered s ps qs first second one) room in

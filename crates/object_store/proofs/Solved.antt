@@ -34,10 +34,12 @@ byte_from_symbols column places values m are long count have less =
     let g = polynomial_weighed power k column k points long column_bytes (omega arith) in
     let at_places : (i : ℕ) → i < k → value g.coefs (point_of places i) ≡ get_or values i 0 = λ i lt.
     g.values (point_of places i) (power_lt (get_or places i 0))
-    ∙ symbol_unique column (get_or places i 0) (weighed power k column k (power (get_or places i 0))) (get_or values i 0) (omega (arith, long, are.most)) (interpolates k column (get_or places i 0) long column_bytes are.most) (have i lt) in
+    ∙ symbol_unique column (get_or places i 0) (weighed power k column k (power (get_or places i 0))) (get_or values i 0)
+    (omega (arith, long, are.most)) (interpolates k column (get_or places i 0) long column_bytes are.most) (have i lt) in
     weighed_is_value k (point_of places) g.coefs values (power m) (places_are_points places are) g.count g.bytes count value_bytes at_places (power_lt m)
     ∙ g.values (power m) (power_lt m)
     ∙ weighed_after power k column k m points long column_bytes (omega arith) less
   where
     symbols_are_bytes : (c ps vs : List ℕ) → length vs ≡ length ps → HaveSymbols c ps vs → AreBytes vs
-    symbols_are_bytes c ps vs same has i d lt = subst (λ (x : ℕ). x < 256) (get_or_default vs i 0 d lt) (byte_of_symbol c (get_or ps i 0) (get_or vs i 0) (has i (omega (arith, same))))
+    symbols_are_bytes c ps vs same has i d lt = subst (λ (x : ℕ). x < 256) (get_or_default vs i 0 d lt)
+        (byte_of_symbol c (get_or ps i 0) (get_or vs i 0) (has i (omega (arith, same))))

@@ -39,7 +39,8 @@ order_greater : (x y : ℕ) → nat_cmp x y ≡ Greater → y < x
 order_greater x y h = grind (arith, nat_tests)
 
 -- the entries above a key have the same terms, where only the key's own changes
-sum_above : {X : Type 0} (f g : ℕ × X → ℕ) (k x : ℕ) (es : List (ℕ × X)) → k ≤ x → T (below_all nat_cmp x es) → ((e : ℕ × X) → e.0 ≢ k → g e ≡ f e) → sum_by g es ≡ sum_by f es
+sum_above : {X : Type 0} (f g : ℕ × X → ℕ) (k x : ℕ) (es : List (ℕ × X)) → k ≤ x
+    → T (below_all nat_cmp x es) → ((e : ℕ × X) → e.0 ≢ k → g e ≡ f e) → sum_by g es ≡ sum_by f es
 sum_above f g k x [] low sorted alike = refl
 sum_above f g k x (e ∷ es) low sorted alike =
     let parts = both_hold (is_lt (nat_cmp x e.0)) (below_all nat_cmp x es) sorted in
@@ -57,7 +58,8 @@ missing_above k x (e ∷ es) low sorted =
     rw apart (missing_above k x es low parts.1)
 
 -- the sum over the entries with one put among them
-pub sum_put : {X : Type 0} (f g : ℕ × X → ℕ) (k : ℕ) (v : X) (es : List (ℕ × X)) → T (is_sorted nat_cmp es) → ((e : ℕ × X) → e.0 ≢ k → g e ≡ f e) → ((w : X) → find nat_cmp k es ≡ Some w → w ≡ v)
+pub sum_put : {X : Type 0} (f g : ℕ × X → ℕ) (k : ℕ) (v : X) (es : List (ℕ × X)) → T (is_sorted nat_cmp es)
+    → ((e : ℕ × X) → e.0 ≢ k → g e ≡ f e) → ((w : X) → find nat_cmp k es ≡ Some w → w ≡ v)
     → sum_by g (put nat_cmp k v es) + (if is_some (find nat_cmp k es) then f (k, v) else 0) ≡ sum_by f es + g (k, v)
 sum_put f g k v [] sorted alike agrees = omega arith
 sum_put {X = X} f g k v (e ∷ es) sorted alike agrees =

@@ -23,7 +23,8 @@ one_row k size j bytes row other most is also =
     ext_get_or 0 row other (is.full ∙ sym also.full)
     (λ at less.
     let within : at < size = omega (arith, is.full) in
-    symbol_unique (column (cut k size bytes) at) j (get_or row at 0) (get_or other at 0) (omega (arith, length-column k size at bytes, most)) (is.symbols at within) (also.symbols at within))
+    symbol_unique (column (cut k size bytes) at) j (get_or row at 0) (get_or other at 0)
+    (omega (arith, length-column k size at bytes, most)) (is.symbols at within) (also.symbols at within))
 
 -- the session has one object under an identifier
 pub one_object : (s : Session) (t : ℕ) (x y : Sent) → s t ≡ Some x → s t ≡ Some y → x ≡ y

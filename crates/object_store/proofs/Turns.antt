@@ -68,7 +68,8 @@ fresh s held set p agrees packet belongs vacant = record {
   none (Some row) never = absurd (never row refl)
 
 -- a row of the packet's place shows that the object is open under its information
-open_by_row : (s : Session) (held set : Held) (p : SymbolPacket) (b j : ℕ) (row : List ℕ) → Agrees s held set → Belongs s p → row_at held (place p.toi b j) ≡ Some row → get held.objects p.toi ≡ Some p.oti
+open_by_row : (s : Session) (held set : Held) (p : SymbolPacket) (b j : ℕ) (row : List ℕ) → Agrees s held set
+    → Belongs s p → row_at held (place p.toi b j) ≡ Some row → get held.objects p.toi ≡ Some p.oti
 open_by_row s held set p b j row agrees belongs is =
     agrees.opened p.toi b j row belongs.object (agrees.rows p.toi b j row is) belongs.sent ∙ ap (λ o. Some o) (sym belongs.information)
 
@@ -83,21 +84,25 @@ equal_rows : (xs : List ℕ) → bytes_eq xs xs ≡ true
 equal_rows xs = (bytes_eq-Decides xs xs).1 refl
 
 -- a packet whose place is held is a repeat: there is one symbol for each place
-found_row : (s : Session) (budget : ℕ) (held set : Held) (p : SymbolPacket) (row : List ℕ) → Agrees s held set → IsPacket p → Belongs s p → row_at held (place_of p) ≡ Some row
+found_row : (s : Session) (budget : ℕ) (held set : Held) (p : SymbolPacket) (row : List ℕ)
+    → Agrees s held set → IsPacket p → Belongs s p → row_at held (place_of p) ≡ Some row
     → verdict budget held p ≡ verdict_on_row budget held p (row_at held (place_of p)) → Found budget held p
 found_row s budget held set p row agrees packet belongs is on =
-    let one : row ≡ full p = same_symbol s p.toi p.sbn p.esi row (full p) (agrees.symbols p.toi p.sbn p.esi row (agrees.rows p.toi p.sbn p.esi row is)) (symbol_of_packet s p packet belongs) in
+    let one : row ≡ full p = same_symbol s p.toi p.sbn p.esi row (full p)
+    (agrees.symbols p.toi p.sbn p.esi row (agrees.rows p.toi p.sbn p.esi row is)) (symbol_of_packet s p packet belongs) in
     let test : bytes_eq row (full p) ≡ true = ap (λ r. bytes_eq r (full p)) one ∙ equal_rows (full p) in
     FoundRepeat (open_by_row s held set p p.sbn p.esi row agrees belongs is) (is ∙ ap (λ r. Some r) one) (on ∙ ap (verdict_on_row budget held p) is ∙ rw test refl)
 
 -- where some symbol of a block is held, a place that isn't vacant shows that its object is open
-found_spare : (s : Session) (budget : ℕ) (held set : Held) (p : SymbolPacket) → Agrees s held set → IsPacket p → Belongs s p → row_at held (place_of p) ≡ None → is_block_ready held p.toi p.oti p.sbn ≡ true
+found_spare : (s : Session) (budget : ℕ) (held set : Held) (p : SymbolPacket) → Agrees s held set
+    → IsPacket p → Belongs s p → row_at held (place_of p) ≡ None → is_block_ready held p.toi p.oti p.sbn ≡ true
     → verdict budget held p ≡ verdict_on_fresh budget held p → Found budget held p
 found_spare s budget held set p agrees packet belongs vacant full_ on =
     let enough = at_most (size_at p.oti p.sbn) (symbols_held held p.toi p.oti p.sbn) full_ in
     let some = (size_bounds p.oti packet.sound p.sbn packet.block).0 in
     elim (get held.objects p.toi) as (λ o. get held.objects p.toi ≡ o → Found budget held p) [
-      | None ↦ λ e. absurd (let none = unopened_symbols held p.toi p.oti p.sbn ((fresh s held set p agrees packet belongs vacant).unopened e) in omega (arith, none, enough, some))
+      | None ↦ λ e. absurd (let none = unopened_symbols held p.toi p.oti p.sbn ((fresh s held set p agrees packet belongs vacant).unopened e) in
+          omega (arith, none, enough, some))
       | Some o ↦ λ e. FoundSpare (e ∙ ap (λ i. Some i) (open_as s held set p o agrees belongs e)) enough (on ∙ rw full_ refl)
     ] refl
   where
@@ -117,8 +122,10 @@ found s budget held set p agrees packet belongs =
             | false ↦ λ wanting.
                 let fewer = not_le (size_at p.oti p.sbn) (symbols_held held p.toi p.oti p.sbn) wanting in
                 elim (nat_lt budget (byte_count held + charge held p)) as (λ b. nat_lt budget (byte_count held + charge held p) ≡ b → Found budget held p) [
-                  | true ↦ λ over. FoundOver (fresh s held set p agrees packet belongs vacant) fewer (less budget (byte_count held + charge held p) over) (on_fresh ∙ rw (wanting, over) refl)
-                  | false ↦ λ fits. FoundNew (fresh s held set p agrees packet belongs vacant) fewer (not_lt budget (byte_count held + charge held p) fits) (on_fresh ∙ rw (wanting, fits) refl)
+                  | true ↦ λ over. FoundOver (fresh s held set p agrees packet belongs vacant)
+                      fewer (less budget (byte_count held + charge held p) over) (on_fresh ∙ rw (wanting, over) refl)
+                  | false ↦ λ fits. FoundNew (fresh s held set p agrees packet belongs vacant)
+                      fewer (not_lt budget (byte_count held + charge held p) fits) (on_fresh ∙ rw (wanting, fits) refl)
                 ] refl
           ] refl
     ] refl
@@ -146,20 +153,25 @@ leaves_found : (s : Session) (budget : ℕ) (held set : Held) (p : SymbolPacket)
     → Found budget held p → Leaves s budget held set p (verdict budget held p)
 leaves_found s budget held set p session agrees within packet belongs (FoundRepeat open_ is e) =
     let again = join_set s held set p agrees packet belongs open_ (inl is) in
-    subst (Leaves s budget held set p) (sym e) (record { agrees = again; within = within; fits = is_at_most _ _ (omega (arith, counts_agree s held (joined set p) session again, within)); no_difference = tt })
+    subst (Leaves s budget held set p) (sym e)
+    (record { agrees = again; within = within; fits = is_at_most _ _ (omega (arith, counts_agree s held (joined set p) session again, within)); no_difference = tt })
 leaves_found s budget held set p session agrees within packet belongs (FoundSpare open_ full_ e) =
     let again = join_set s held set p agrees packet belongs open_ (inr full_) in
-    subst (Leaves s budget held set p) (sym e) (record { agrees = again; within = within; fits = is_at_most _ _ (omega (arith, counts_agree s held (joined set p) session again, within)); no_difference = tt })
+    subst (Leaves s budget held set p) (sym e)
+    (record { agrees = again; within = within; fits = is_at_most _ _ (omega (arith, counts_agree s held (joined set p) session again, within)); no_difference = tt })
 leaves_found s budget held set p session agrees within packet belongs (FoundOver is_fresh wanting over e) =
     let both = join_both s held set p agrees packet belongs is_fresh wanting in
     let count = counts_agree s (joined held p) (joined set p) session both in
-    subst (Leaves s budget held set p) (sym e) (record { agrees = agrees; within = within; fits = is_above _ _ (omega (arith, joined_count held p is_fresh, count, over)); no_difference = tt })
+    subst (Leaves s budget held set p) (sym e)
+    (record { agrees = agrees; within = within; fits = is_above _ _ (omega (arith, joined_count held p is_fresh, count, over)); no_difference = tt })
 leaves_found s budget held set p session agrees within packet belongs (FoundNew is_fresh wanting room e) =
     let both = join_both s held set p agrees packet belongs is_fresh wanting in
     let count = counts_agree s (joined held p) (joined set p) session both in
     let more = joined_count held p is_fresh in
-    subst (Leaves s budget held set p) (sym e) (record { agrees = both; within = omega (arith, more, room); fits = is_at_most _ _ (omega (arith, more, count, room)); no_difference = tt })
+    subst (Leaves s budget held set p) (sym e)
+    (record { agrees = both; within = omega (arith, more, room); fits = is_at_most _ _ (omega (arith, more, count, room)); no_difference = tt })
 
-pub leaves : (s : Session) (budget : ℕ) (held set : Held) (p : SymbolPacket) → IsSession s → Agrees s held set → byte_count held ≤ budget → IsOf s p → Leaves s budget held set p (verdict budget held p)
+pub leaves : (s : Session) (budget : ℕ) (held set : Held) (p : SymbolPacket) → IsSession s
+    → Agrees s held set → byte_count held ≤ budget → IsOf s p → Leaves s budget held set p (verdict budget held p)
 leaves s budget held set p session agrees within is =
     leaves_found s budget held set p session agrees within is.packet is.belongs (found s budget held set p agrees is.packet is.belongs)

@@ -65,10 +65,11 @@ pub record IsOnRow (budget : ℕ) (held : Held) (p : SymbolPacket) (o : Option O
 
 new_on_row : (budget : ℕ) (held : Held) (p : SymbolPacket) (o : Option ObjectInformation) → is_new (verdict_on_object budget held p o) ≡ true → IsOnRow budget held p o
 new_on_row budget held p None e = record { row = refl; agrees = λ u f. absurd (let both : None ≡ Some u = f in cc) }
-new_on_row budget held p (Some o) e = elim (same_information o p.oti) as (λ b. same_information o p.oti ≡ b → is_new (if b then verdict_on_row budget held p (row_at held (place_of p)) else OtiDiffers o) ≡ true → IsOnRow budget held p (Some o)) [
-  | true ↦ λ same f. record { row = rw same refl; agrees = λ u g. subst (λ v. v ≡ p.oti) (let one : o ≡ u = cc in one) (same_is_equal o p.oti same) }
-  | false ↦ λ other f. cc
-] refl e
+new_on_row budget held p (Some o) e = elim (same_information o p.oti) as (λ b. same_information o p.oti ≡ b
+    → is_new (if b then verdict_on_row budget held p (row_at held (place_of p)) else OtiDiffers o) ≡ true → IsOnRow budget held p (Some o)) [
+      | true ↦ λ same f. record { row = rw same refl; agrees = λ u g. subst (λ v. v ≡ p.oti) (let one : o ≡ u = cc in one) (same_is_equal o p.oti same) }
+      | false ↦ λ other f. cc
+    ] refl e
 
 -- what the verdict New says of a packet
 pub new_says : (budget : ℕ) (held : Held) (p : SymbolPacket) → is_new (verdict budget held p) ≡ true → IsNew budget held p
@@ -76,7 +77,8 @@ new_says budget held p e =
     let on = new_on_row budget held p (get held.objects p.toi) e in
     let vacant = vacant_from_new budget held p (row_at held (place_of p)) (ap is_new (sym on.row) ∙ e) in
     let fresh = on.row ∙ ap (verdict_on_row budget held p) vacant in
-    let tests = on_fresh (is_block_ready held p.toi p.oti p.sbn) (nat_lt budget (byte_count held + charge held p)) (byte_count held) (charge held p) (new_in (joined held p) p) (ap is_new (sym fresh) ∙ e) in
+    let tests = on_fresh (is_block_ready held p.toi p.oti p.sbn) (nat_lt budget (byte_count held + charge held p))
+    (byte_count held) (charge held p) (new_in (joined held p) p) (ap is_new (sym fresh) ∙ e) in
     record {
       agrees = on.agrees;
       vacant = vacant;

@@ -1,5 +1,6 @@
 -- What is whole has the held rows as its symbols at the held places, whatever bytes they are.
-use Rattle.std.proofs.Common.{◌≡◌, ℕ, zero, suc, ◌+◌, ◌*◌, ◌<◌, ◌≤◌, true, List, [], ◌++◌, length, get_or, drop, refl, sym, ap, subst, ◌∙◌, arith, inl, inr, Option, Some, None}
+use Rattle.std.proofs.Common.{◌≡◌, ℕ, zero, suc, ◌+◌, ◌*◌, ◌<◌, ◌≤◌, true, List, [], ◌++◌, length, get_or, drop, refl, sym, ap}
+use Rattle.std.proofs.Common.{subst, ◌∙◌, arith, inl, inr, Option, Some, None}
 use Rattle.std.specs.Prelude.{is_some, unwrap_or, slice_index}
 use Rattle.std.specs.FinMap.{get}
 use Rattle.std.proofs.Math.ListN.{get_or-append}
@@ -27,7 +28,8 @@ use Rattle.object_store.proofs.WholeOnly.{are_places, length_places}
 
 -- ---- the column that is computed has the symbols
 
-solved_has : (places values : List ℕ) → ArePlaces places → AreBytes values → length values ≡ length places → HaveSymbols (list_below (length places) (source_byte places values)) places values
+solved_has : (places values : List ℕ) → ArePlaces places → AreBytes values → length values ≡ length places
+    → HaveSymbols (list_below (length places) (source_byte places values)) places values
 unfolding interpolated
 solved_has places values are bytes count i less =
     let k = length places in
@@ -60,12 +62,14 @@ length_join (suc n) f starts s =
     let one : suc n ≡ n + 1 = omega arith in
     omega (arith, length-append (join_below n f) (f n), length_join n f starts (fewer n f starts s), s.next n (omega arith), ap starts one)
 
-get_or-join : (n : ℕ) (f : ℕ → List ℕ) (starts : ℕ → ℕ) (c i : ℕ) → Starts n f starts → c < n → i < length (f c) → get_or (join_below n f) (starts c + i) 0 ≡ get_or (f c) i 0
+get_or-join : (n : ℕ) (f : ℕ → List ℕ) (starts : ℕ → ℕ) (c i : ℕ) → Starts n f starts
+    → c < n → i < length (f c) → get_or (join_below n f) (starts c + i) 0 ≡ get_or (f c) i 0
 get_or-join zero f starts c i s less within = absurd (omega arith)
 get_or-join (suc n) f starts c i s less within = elim (cases_lt c n) [
   | inl before ↦
       let rest = fewer n f starts s in
-      get_or-append (join_below n f) (f n) 0 (starts c + i) (omega (arith, length_join n f starts rest, ends_before n f starts c rest before, within)) ∙ get_or-join n f starts c i rest before within
+      get_or-append (join_below n f) (f n) 0 (starts c + i) (omega (arith, length_join n f starts rest, ends_before n f starts c rest before, within))
+      ∙ get_or-join n f starts c i rest before within
   | inr at ↦
       let same : c ≡ n = omega arith in
       let long = length_join n f starts (fewer n f starts s) in
@@ -103,14 +107,17 @@ rows_of_block held t o b i = source_row o.symbol (held_places held t o b) (rows_
 
 length_block : (held : Held) (t b : ℕ) (o : ObjectInformation) → length (block_bytes held t o b) ≡ size_at o b * o.symbol
 unfolding block_bytes
-length_block held t b o = length_join (size_at o b) (rows_of_block held t o b) (λ i. i * o.symbol) (row_starts (size_at o b) o.symbol (held_places held t o b) (rows_at held t b (held_places held t o b)))
+length_block held t b o = length_join (size_at o b) (rows_of_block held t o b) (λ i. i * o.symbol)
+    (row_starts (size_at o b) o.symbol (held_places held t o b) (rows_at held t b (held_places held t o b)))
 
-byte_of_block : (held : Held) (t b i at : ℕ) (o : ObjectInformation) → i < size_at o b → at < o.symbol → get_or (block_bytes held t o b) (i * o.symbol + at) 0 ≡ source_byte (held_places held t o b) (column (rows_at held t b (held_places held t o b)) at) i
+byte_of_block : (held : Held) (t b i at : ℕ) (o : ObjectInformation) → i < size_at o b → at < o.symbol
+    → get_or (block_bytes held t o b) (i * o.symbol + at) 0 ≡ source_byte (held_places held t o b) (column (rows_at held t b (held_places held t o b)) at) i
 unfolding block_bytes
 byte_of_block held t b i at o less within =
     let places = held_places held t o b in
     let rows = rows_at held t b places in
-    get_or-join (size_at o b) (rows_of_block held t o b) (λ n. n * o.symbol) i at (row_starts (size_at o b) o.symbol places rows) less (omega (arith, length_row o.symbol i places rows, within))
+    get_or-join (size_at o b) (rows_of_block held t o b) (λ n. n * o.symbol) i
+    at (row_starts (size_at o b) o.symbol places rows) less (omega (arith, length_row o.symbol i places rows, within))
     ∙ byte_of_row o.symbol i at places rows within
 
 block_starts : (held : Held) (t : ℕ) (o : ObjectInformation) → IsSound o → Starts (blocks o) (λ b. block_bytes held t o b) (λ b. start_at o b * o.symbol)
@@ -140,7 +147,8 @@ column_is held t b at o sound less ready within =
     ext_get_or 0 _ _ (long ∙ sym count ∙ sym wide)
     (λ i lt.
     let inside : i < k = omega (arith, lt, long) in
-    let room : i * o.symbol + at < length (block_bytes held t o b) = omega (arith, length_block held t b o, mul-le (i + 1) o.symbol k o.symbol (omega arith) (omega arith), within) in
+    let room : i * o.symbol + at < length (block_bytes held t o b) =
+    omega (arith, length_block held t b o, mul-le (i + 1) o.symbol k o.symbol (omega arith) (omega arith), within) in
     get_or-column k o.symbol at i rest inside within
     ∙ get_or-drop (start_at o b * o.symbol) (all_rows held t o) (i * o.symbol + at) 0
     ∙ get_or-join (blocks o) (λ c. block_bytes held t o c) (λ c. start_at o c * o.symbol) b (i * o.symbol + at) (block_starts held t o sound) less room
@@ -149,14 +157,18 @@ column_is held t b at o sound less ready within =
 
 -- ---- the held places are all places that are held
 
-held_are_all : (held : Held) (t b : ℕ) (o : ObjectInformation) → symbols_held held t o b ≤ size_at o b → held_places held t o b ≡ which_below (encoding_at o b) (λ j. is_held held (place t b j))
+held_are_all : (held : Held) (t b : ℕ) (o : ObjectInformation) → symbols_held held t o b ≤ size_at o b
+    → held_places held t o b ≡ which_below (encoding_at o b) (λ j. is_held held (place t b j))
 unfolding held_places
-held_are_all held t b o most = take_all (size_at o b) (which_below (encoding_at o b) (λ j. is_held held (place t b j))) (omega (arith, length_which (encoding_at o b) (λ j. is_held held (place t b j)), most))
+held_are_all held t b o most = take_all (size_at o b) (which_below (encoding_at o b) (λ j. is_held held (place t b j)))
+    (omega (arith, length_which (encoding_at o b) (λ j. is_held held (place t b j)), most))
 
 -- a row that is held is the symbol of its place, of the computed rows
-column_symbol : (held : Held) (t b j at : ℕ) (o : ObjectInformation) (row : List ℕ) → IsHeldPair held → AreByteRows held → get held.objects t ≡ Some o → b < blocks o → is_block_ready held t o b ≡ true → at < o.symbol
+column_symbol : (held : Held) (t b j at : ℕ) (o : ObjectInformation) (row : List ℕ) → IsHeldPair held
+    → AreByteRows held → get held.objects t ≡ Some o → b < blocks o → is_block_ready held t o b ≡ true → at < o.symbol
     → row_at held (place t b j) ≡ Some row
-    → IsSymbol (list_below (length (held_places held t o b)) (source_byte (held_places held t o b) (column (rows_at held t b (held_places held t o b)) at))) j (slice_index row at)
+    → IsSymbol (list_below (length (held_places held t o b))
+    (source_byte (held_places held t o b) (column (rows_at held t b (held_places held t o b)) at))) j (slice_index row at)
 column_symbol held t b j at o row pair bytes open_ less ready within found =
     let sound = pair.sound t o open_ in
     let places = held_places held t o b in
@@ -167,12 +179,15 @@ column_symbol held t b j at o row pair bytes open_ less ready within found =
     let stands = which_has (encoding_at o b) (λ n. is_held held (place t b n)) j inside (ap is_some found) in
     let there_ : stands.at < length places = omega (arith, stands.within, ap length all) in
     let place_is : get_or places stands.at 0 ≡ j = ap (λ xs. get_or xs stands.at 0) all ∙ stands.is in
-    let row_is : get_or rows stands.at [] ≡ row = get_or-map (λ n. row_or_none held t b n) places stands.at 0 [] there_ ∙ ap (λ n. row_or_none held t b n) place_is ∙ ap (λ r. unwrap_or r []) found in
+    let row_is : get_or rows stands.at [] ≡ row = get_or-map (λ n. row_or_none held t b n) places stands.at 0 [] there_
+    ∙ ap (λ n. row_or_none held t b n) place_is ∙ ap (λ r. unwrap_or r []) found in
     let value_is : get_or values stands.at 0 ≡ slice_index row at =
-    get_or-map (λ (r : List ℕ). slice_index r at) rows stands.at [] 0 (omega (arith, length-map places (λ n. row_or_none held t b n), there_)) ∙ ap (λ (r : List ℕ). slice_index r at) row_is in
+    get_or-map (λ (r : List ℕ). slice_index r at) rows stands.at [] 0 (omega (arith, length-map places (λ n. row_or_none held t b n), there_))
+    ∙ ap (λ (r : List ℕ). slice_index r at) row_is in
     let count : length values ≡ length places = length-map rows (λ (r : List ℕ). slice_index r at) ∙ length-map places (λ n. row_or_none held t b n) in
     let has = solved_has places values (are_places held t b o sound less ready) (value_bytes places rows) count stands.at there_ in
-    subst (λ v. IsSymbol (list_below (length places) (source_byte places values)) j v) value_is (subst (λ n. IsSymbol (list_below (length places) (source_byte places values)) n (get_or values stands.at 0)) place_is has)
+    subst (λ v. IsSymbol (list_below (length places) (source_byte places values)) j v)
+    value_is (subst (λ n. IsSymbol (list_below (length places) (source_byte places values)) n (get_or values stands.at 0)) place_is has)
   where
     -- a byte of a row that is held, or 0
     byte_at : (o : Option (List ℕ)) → ((r : List ℕ) → o ≡ Some r → AreBytes r) → (n : ℕ) → slice_index (unwrap_or o []) n < 256
@@ -185,22 +200,28 @@ column_symbol held t b j at o row pair bytes open_ less ready within found =
           let ps = held_places held t o b in
           let rs = rows_at held t b ps in
           let value : get_or (column rs at) i 0 ≡ slice_index (row_or_none held t b (get_or ps i 0)) at =
-          get_or-map (λ (r : List ℕ). slice_index r at) rs i [] 0 (omega (arith, length-map ps (λ n. row_or_none held t b n), lt)) ∙ ap (λ (r : List ℕ). slice_index r at) (get_or-map (λ n. row_or_none held t b n) ps i 0 [] lt) in
+          get_or-map (λ (r : List ℕ). slice_index r at) rs i [] 0 (omega (arith, length-map ps (λ n. row_or_none held t b n), lt))
+          ∙ ap (λ (r : List ℕ). slice_index r at) (get_or-map (λ n. row_or_none held t b n) ps i 0 [] lt) in
           subst (λ (x : ℕ). x < 256) (sym value) (byte_at (row_at held (place t b (get_or ps i 0))) (λ r e. bytes.bytes t b (get_or ps i 0) r e) at)
       | inr past ↦
           let ps = held_places held t o b in
           let rs = rows_at held t b ps in
-          subst (λ (x : ℕ). x < 256) (sym (get_or_past (column rs at) i 0 (omega (arith, length-map rs (λ (r : List ℕ). slice_index r at), length-map ps (λ n. row_or_none held t b n), past)))) (omega arith)
+          subst (λ (x : ℕ). x < 256)
+          (sym (get_or_past (column rs at) i
+          0 (omega (arith, length-map rs (λ (r : List ℕ). slice_index r at), length-map ps (λ n. row_or_none held t b n), past)))) (omega arith)
     ])
 
 -- the computed rows of a ready object have the held rows as their symbols
-pub whole_has : (held : Held) (t : ℕ) (o : ObjectInformation) → IsHeldPair held → AreByteRows held → get held.objects t ≡ Some o → is_ready held t o ≡ true → AreSourceRows held t o (all_rows held t o)
+pub whole_has : (held : Held) (t : ℕ) (o : ObjectInformation) → IsHeldPair held → AreByteRows held
+    → get held.objects t ≡ Some o → is_ready held t o ≡ true → AreSourceRows held t o (all_rows held t o)
 whole_has held t o pair bytes open_ ready =
     let sound = pair.sound t o open_ in record {
-      long = length_join (blocks o) (λ b. block_bytes held t o b) (λ b. start_at o b * o.symbol) (block_starts held t o sound) ∙ ap (λ n. n * o.symbol) (start_last o sound);
+      long = length_join (blocks o) (λ b. block_bytes held t o b) (λ b. start_at o b * o.symbol)
+          (block_starts held t o sound) ∙ ap (λ n. n * o.symbol) (start_last o sound);
       symbols = λ b j row less found.
           let done = passes_below (blocks o) b (is_block_ready held t o) ready less in record {
             full = (pair.within t b j row o found open_).2;
-            symbols = λ at within. subst (λ c. IsSymbol c j (slice_index row at)) (sym (column_is held t b at o sound less done within)) (column_symbol held t b j at o row pair bytes open_ less done within found);
+            symbols = λ at within. subst (λ c. IsSymbol c j (slice_index row at)) (sym (column_is held t b at o sound less done within))
+                (column_symbol held t b j at o row pair bytes open_ less done within found);
           };
     }

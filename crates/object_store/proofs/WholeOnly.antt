@@ -1,5 +1,6 @@
 -- What is whole is the one object whose symbols at the held places are the held rows.
-use Rattle.std.proofs.Common.{◌≡◌, ◌≢◌, ℕ, zero, suc, ◌+◌, ◌*◌, ◌<◌, ◌≤◌, Bool, true, List, [], ◌++◌, length, get_or, take, drop, refl, sym, ap, subst, ◌∙◌, arith, All, AllPairs, Option, Some, None}
+use Rattle.std.proofs.Common.{◌≡◌, ◌≢◌, ℕ, zero, suc, ◌+◌, ◌*◌, ◌<◌, ◌≤◌, Bool, true, List, [], ◌++◌, length, get_or, take, drop}
+use Rattle.std.proofs.Common.{refl, sym, ap, subst, ◌∙◌, arith, All, AllPairs, Option, Some, None}
 use Rattle.std.specs.Prelude.{is_some, nat_le, unwrap_or, slice_index}
 use Rattle.std.specs.FinMap.{get}
 use Rattle.std.proofs.Math.Seq.{take-add}
@@ -60,7 +61,8 @@ length_places held t b o ready =
 
 pub places_pass : (held : Held) (t b : ℕ) (o : ObjectInformation) → All (IsPassing (encoding_at o b) (is_held_at held t b)) (held_places held t o b)
 unfolding held_places
-places_pass held t b o = All-take (IsPassing (encoding_at o b) (is_held_at held t b)) (size_at o b) (which_below (encoding_at o b) (is_held_at held t b)) (which_pass (encoding_at o b) (is_held_at held t b))
+places_pass held t b o = All-take (IsPassing (encoding_at o b) (is_held_at held t b)) (size_at o b)
+    (which_below (encoding_at o b) (is_held_at held t b)) (which_pass (encoding_at o b) (is_held_at held t b))
 
 places_differ : (held : Held) (t b : ℕ) (o : ObjectInformation) → AllPairs (λ x y. x ≢ y) (held_places held t o b)
 unfolding held_places
@@ -110,7 +112,8 @@ have_symbols held t b at o rows are less lt i within =
     subst (IsSymbol (column (cut (size_at o b) o.symbol (block_from o rows b)) at) j) (sym value) is
 
 -- row i of the block
-row_is : (held : Held) (t b i : ℕ) (o : ObjectInformation) (rows : List ℕ) → IsSound o → AreSourceRows held t o rows → b < blocks o → is_block_ready held t o b ≡ true → i < size_at o b
+row_is : (held : Held) (t b i : ℕ) (o : ObjectInformation) (rows : List ℕ) → IsSound o
+    → AreSourceRows held t o rows → b < blocks o → is_block_ready held t o b ≡ true → i < size_at o b
     → source_row o.symbol (held_places held t o b) (rows_at held t b (held_places held t o b)) i ≡ take o.symbol (drop (i * o.symbol) (block_from o rows b))
 unfolding source_row
 row_is held t b i o rows sound are less ready lt =
@@ -119,15 +122,18 @@ row_is held t b i o rows sound are less ready lt =
     let block = block_from o rows b in
     let count = length_places held t b o ready in
     let ends = block_end o sound b less in
-    let enough : (start_at o b + size_at o b) * o.symbol ≤ length rows = subst (λ (n : ℕ). (start_at o b + size_at o b) * o.symbol ≤ n) (sym are.long) (scaled (start_at o b + size_at o b) (sources o) o.symbol ends) in
-    let room : i * o.symbol + o.symbol ≤ length block = omega (arith, length-drop (start_at o b * o.symbol) rows, enough, scaled (i + 1) (size_at o b) o.symbol (omega arith)) in
+    let enough : (start_at o b + size_at o b) * o.symbol ≤ length rows = subst (λ (n : ℕ). (start_at o b + size_at o b) * o.symbol ≤ n)
+    (sym are.long) (scaled (start_at o b + size_at o b) (sources o) o.symbol ends) in
+    let room : i * o.symbol + o.symbol ≤ length block =
+    omega (arith, length-drop (start_at o b * o.symbol) rows, enough, scaled (i + 1) (size_at o b) o.symbol (omega arith)) in
     ext_get_or 0 _ _
     (length-map-range_with_len (λ at. source_byte places (column held_rows at) i) 0 o.symbol
     ∙ sym (let l = length-take o.symbol (drop (i * o.symbol) block) in let m = length-drop (i * o.symbol) block in omega (arith, l, m, room)))
     (λ at within.
     let lat : at < o.symbol = omega (arith, within, length-map-range_with_len (λ at. source_byte places (column held_rows at) i) 0 o.symbol) in
     let column_is = byte_from_symbols (column (cut (size_at o b) o.symbol block) at) places (column held_rows at) i (are_places held t b o sound less ready)
-    (length-column (size_at o b) o.symbol at block ∙ sym count) (length-map held_rows (λ (r : List ℕ). slice_index r at) ∙ length-map places (λ j. row_or_none held t b j)) (have_symbols held t b at o rows are less lat) (omega (arith, count)) in
+    (length-column (size_at o b) o.symbol at block ∙ sym count) (length-map held_rows (λ (r : List ℕ). slice_index r at)
+    ∙ length-map places (λ j. row_or_none held t b j)) (have_symbols held t b at o rows are less lat) (omega (arith, count)) in
     get_or-map-range_with_len (λ at. source_byte places (column held_rows at) i) 0 o.symbol at at 0 lat (omega arith)
     ∙ column_is
     ∙ get_or-column (size_at o b) o.symbol at i block lt lat
@@ -141,18 +147,21 @@ block_is : (held : Held) (t b : ℕ) (o : ObjectInformation) (rows : List ℕ) �
     → block_bytes held t o b ≡ take (size_at o b * o.symbol) (block_from o rows b)
 unfolding block_bytes
 block_is held t b o rows sound are less ready =
-    join_same (size_at o b) (λ i. source_row o.symbol (held_places held t o b) (rows_at held t b (held_places held t o b)) i) (λ i. take o.symbol (drop (i * o.symbol) (block_from o rows b)))
+    join_same (size_at o b) (λ i. source_row o.symbol (held_places held t o b) (rows_at held t b (held_places held t o b)) i)
+    (λ i. take o.symbol (drop (i * o.symbol) (block_from o rows b)))
     (λ i lt. row_is held t b i o rows sound are less ready lt)
     ∙ join_rows (size_at o b) o.symbol (block_from o rows b)
 
 -- what is whole of an object that is ready, by any rows whose symbols at the held places are the held rows
-pub whole_only : (held : Held) (t : ℕ) (o : ObjectInformation) (rows : List ℕ) → IsHeldPair held → get held.objects t ≡ Some o → is_ready held t o ≡ true → AreSourceRows held t o rows
+pub whole_only : (held : Held) (t : ℕ) (o : ObjectInformation) (rows : List ℕ) → IsHeldPair held
+    → get held.objects t ≡ Some o → is_ready held t o ≡ true → AreSourceRows held t o rows
     → whole held t ≡ Some (take o.length rows)
 unfolding whole
 whole_only held t o rows pair open_ ready are =
     let sound = pair.sound t o open_ in
     let joined : join_below (blocks o) (λ b. block_bytes held t o b) ≡ rows =
-    join_same (blocks o) (λ b. block_bytes held t o b) (λ b. take (size_at o b * o.symbol) (block_from o rows b)) (λ b less. block_is held t b o rows sound are less (passes_below (blocks o) b (is_block_ready held t o) ready less))
+    join_same (blocks o) (λ b. block_bytes held t o b) (λ b. take (size_at o b * o.symbol) (block_from o rows b))
+    (λ b less. block_is held t b o rows sound are less (passes_below (blocks o) b (is_block_ready held t o) ready less))
     ∙ join_blocks o rows (blocks o) sound (omega arith)
     ∙ take_all (start_at o (blocks o) * o.symbol) rows (let s = start_last o sound in omega (arith, are.long, ap (λ (n : ℕ). n * o.symbol) s)) in
     ap (bytes_when_ready held t) open_ ∙ rw ready (ap (λ (xs : List ℕ). Some (take o.length xs)) joined)

@@ -50,10 +50,12 @@ module _ (m : FinMap nat_cmp ObjectHeld) (t : ℕ) where
 
   whole_ready : (o : ObjectHeld) (bytes : List ℕ) → IsHeldPair (held_of m) → get m t ≡ Some o → IsWholeOf o bytes → whole (held_of m) t ≡ Some bytes
   whole_ready o bytes pair found is =
-      whole_only (held_of m) t o.oti is.rows pair (information_of o found) (ready_is_done m t o.oti o (object_is o found) ∙ is.done) (source_rows o is.rows found (pair.sound t o.oti (information_of o found)) is.are)
+      whole_only (held_of m) t o.oti is.rows pair (information_of o found) (ready_is_done m t o.oti o (object_is o found) ∙ is.done)
+      (source_rows o is.rows found (pair.sound t o.oti (information_of o found)) is.are)
       ∙ ap (λ (xs : List ℕ). Some xs) (sym is.front)
 
   -- both, by the object's answer
-  pub whole_of_object : (o : ObjectHeld) (r : Option (Bor (List ℕ))) → IsHeldPair (held_of m) → get m t ≡ Some o → IfNone r (is_done o ≡ false) → IfSome r (λ b. IsWholeOf o b.now) → option_map (λ b. b.now) r ≡ whole (held_of m) t
+  pub whole_of_object : (o : ObjectHeld) (r : Option (Bor (List ℕ))) → IsHeldPair (held_of m) → get m t ≡ Some o
+      → IfNone r (is_done o ≡ false) → IfSome r (λ b. IsWholeOf o b.now) → option_map (λ b. b.now) r ≡ whole (held_of m) t
   whole_of_object o None pair found waits is = sym (whole_waits o found waits)
   whole_of_object o (Some b) pair found waits is = sym (whole_ready o b.now pair found is)

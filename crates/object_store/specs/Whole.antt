@@ -35,4 +35,5 @@ whole held t = bytes_when_ready held t (get held.objects t)
 -- A law says that `whole` is what such rows begin with, and that there are such rows.
 pub record AreSourceRows (held : Held) (t : ℕ) (o : ObjectInformation) (rows : List ℕ) : Type 0 where
   pub long : length rows ≡ sources o * o.symbol
-  pub symbols : (b j : ℕ) (row : List ℕ) → b < blocks o → row_at held (place t b j) ≡ Some row → IsSymbolRow (cut (size_at o b) o.symbol (drop (start_at o b * o.symbol) rows)) o.symbol j row
+  pub symbols : (b j : ℕ) (row : List ℕ) → b < blocks o → row_at held (place t b j) ≡ Some row
+      → IsSymbolRow (cut (size_at o b) o.symbol (drop (start_at o b * o.symbol) rows)) o.symbol j row

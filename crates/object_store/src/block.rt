@@ -1,5 +1,6 @@
 //! A source block of which symbols are held (RFC 5510, section 8).
-ghost use Rattle.std.specs.Prelude.{◌≡◌, ◌≤◌, ◌<◌, ◌+◌, ◌-◌, ◌*◌, ◌^◌, ◌++◌, ◌∷◌, ◌==◌, [], false, true, length, min, take, not, nat_le, if◌then◌else◌, vec_len, Some, None, IfOk, IfSome, OnOk, OnErr, option_map, slice_index};
+ghost use Rattle.std.specs.Prelude.{◌≡◌, ◌≤◌, ◌<◌, ◌+◌, ◌-◌, ◌*◌, ◌^◌, ◌++◌, ◌∷◌, ◌==◌, [], false, true, length};
+ghost use Rattle.std.specs.Prelude.{min, take, not, nat_le, if◌then◌else◌, vec_len, Some, None, IfOk, IfSome, OnOk, OnErr, option_map, slice_index};
 ghost use Rattle.std.specs.FinMap.{get};
 ghost use Rattle.std.specs.List.{position_from, zip};
 ghost use Rattle.wire_bytes.specs.Bytes.{zero_filled};

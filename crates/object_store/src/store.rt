@@ -1,5 +1,6 @@
 //! The store.
-ghost use Rattle.std.specs.Prelude.{◌≡◌, ◌≢◌, ◌≤◌, ◌<◌, ◌+◌, ◌-◌, ◌^◌, ◌++◌, ◌∷◌, [], false, true, min, Some, None, Ok, if◌then◌else◌, vec_len, vec_capacity, IfOk, OnOk, OnErr, IsOk, option_map};
+ghost use Rattle.std.specs.Prelude.{◌≡◌, ◌≢◌, ◌≤◌, ◌<◌, ◌+◌, ◌-◌, ◌^◌, ◌++◌, ◌∷◌, [], false, true};
+ghost use Rattle.std.specs.Prelude.{min, Some, None, Ok, if◌then◌else◌, vec_len, vec_capacity, IfOk, OnOk, OnErr, IsOk, option_map};
 ghost use Rattle.std.specs.FinMap.{get};
 ghost use Rattle.alc_packet.specs.Packet.{IsPacket};
 ghost use Rattle.object_store.specs.Held.{nothing_held, joined};

@@ -87,7 +87,8 @@ unfolding blocks
 sources_within o sound = omega (arith, div_ceil_bounds (sources o) o.max_block sound.some_block)
 
 -- T is N smaller blocks and one source symbol more for each larger one
-pub sources_split : (o : ObjectInformation) → IsSound o → (small o * blocks o + large_count o ≡ sources o) × (large_count o < blocks o) × (large o ≡ small o + min 1 (large_count o))
+pub sources_split : (o : ObjectInformation) → IsSound o → (small o * blocks o + large_count o ≡ sources o)
+    × (large_count o < blocks o) × (large o ≡ small o + min 1 (large_count o))
 unfolding small large large_count
 sources_split o sound =
     let some = blocks_pos o sound in

@@ -32,7 +32,8 @@ unfolding sizes
 sum-sizes o sound =
     let parts = sources_split o sound in
     sum_by-append (λ n. n) (replicate (large_count o) (large o)) (replicate (blocks o - large_count o) (small o))
-    ∙ rw (sum_by-replicate (λ n. n) (large_count o) (large o), sum_by-replicate (λ n. n) (blocks o - large_count o) (small o), parts.2) (total (blocks o) (large_count o) (small o) (omega (arith, parts.1)) ∙ parts.0)
+    ∙ rw (sum_by-replicate (λ n. n) (large_count o) (large o), sum_by-replicate (λ n. n) (blocks o - large_count o) (small o), parts.2)
+    (total (blocks o) (large_count o) (small o) (omega (arith, parts.1)) ∙ parts.0)
 
 -- ---- one block
 
@@ -40,14 +41,16 @@ sum-sizes o sound =
 pub size_front : (o : ObjectInformation) (b : ℕ) → b < large_count o → size_at o b ≡ large o
 unfolding sizes
 size_front o b lt =
-    get_or_append_left (replicate (large_count o) (large o)) (replicate (blocks o - large_count o) (small o)) 0 b (omega (arith, length-replicate (large_count o) (large o)))
+    get_or_append_left (replicate (large_count o) (large o))
+    (replicate (blocks o - large_count o) (small o)) 0 b (omega (arith, length-replicate (large_count o) (large o)))
     ∙ get_or-replicate (large_count o) b (large o) 0 lt
 
 -- a smaller block
 pub size_back : (o : ObjectInformation) (b : ℕ) → large_count o ≤ b → b < blocks o → size_at o b ≡ small o
 unfolding sizes
 size_back o b ge lt =
-    get_or-append_right (replicate (large_count o) (large o)) (replicate (blocks o - large_count o) (small o)) (large_count o) b 0 (length-replicate (large_count o) (large o)) ge
+    get_or-append_right (replicate (large_count o) (large o)) (replicate (blocks o - large_count o) (small o))
+    (large_count o) b 0 (length-replicate (large_count o) (large o)) ge
     ∙ get_or-replicate (blocks o - large_count o) (b - large_count o) (small o) 0 (omega arith)
 
 -- each block has source symbols, and not too many

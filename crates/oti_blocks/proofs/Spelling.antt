@@ -31,8 +31,10 @@ stated-fti_content o rest sound =
 -- the values stand in the first ten bytes
 pub stated-take : (content : List ℕ) → stated (take 10 content) ≡ stated content
 stated-take content =
-    let symbol_is : big_number 2 (drop 6 (take 10 content)) ≡ big_number 2 (drop 6 content) = ap (big_number 2) (drop-take 6 4 content) ∙ big_from-take 0 2 4 (drop 6 content) (omega arith) in
-    made (stated content) _ _ _ _ (big_from-take 0 6 10 content (omega arith)) symbol_is (get_or-take 10 content 8 0 (omega arith)) (get_or-take 10 content 9 0 (omega arith))
+    let symbol_is : big_number 2 (drop 6 (take 10 content)) ≡ big_number 2 (drop 6 content) =
+    ap (big_number 2) (drop-take 6 4 content) ∙ big_from-take 0 2 4 (drop 6 content) (omega arith) in
+    made (stated content) _ _ _ _ (big_from-take 0 6 10 content (omega arith))
+    symbol_is (get_or-take 10 content 8 0 (omega arith)) (get_or-take 10 content 9 0 (omega arith))
 
 -- four pieces
 joined : (a b c d a' b' c' d' : List ℕ) → a ≡ a' → b ≡ b' → c ≡ c' → d ≡ d' → a ++ b ++ c ++ d ≡ a' ++ b' ++ c' ++ d'
@@ -44,8 +46,10 @@ ten content len =
     let last : drop 9 content ≡ get_or content 9 0 ∷ drop 10 content = drop-cons content 9 0 (omega arith) in
     let none : drop 10 content ≡ [] = drop_all 10 content (omega arith) in
     let before : drop 8 content ≡ get_or content 8 0 ∷ drop 9 content = drop-cons content 8 0 (omega arith) in
-    let pair : drop 2 (drop 6 content) ≡ get_or content 8 0 ∷ get_or content 9 0 ∷ [] = drop-drop 2 6 content ∙ before ∙ ap (λ (r : List ℕ). get_or content 8 0 ∷ r) (last ∙ ap (λ (r : List ℕ). get_or content 9 0 ∷ r) none) in
-    let back : take 2 (drop 6 content) ++ (get_or content 8 0 ∷ get_or content 9 0 ∷ []) ≡ drop 6 content = ap (λ (r : List ℕ). take 2 (drop 6 content) ++ r) (sym pair) ∙ take-append-drop 2 (drop 6 content) in
+    let pair : drop 2 (drop 6 content) ≡ get_or content 8 0 ∷ get_or content 9 0 ∷ [] = drop-drop 2 6 content ∙ before
+    ∙ ap (λ (r : List ℕ). get_or content 8 0 ∷ r) (last ∙ ap (λ (r : List ℕ). get_or content 9 0 ∷ r) none) in
+    let back : take 2 (drop 6 content) ++ (get_or content 8 0 ∷ get_or content 9 0 ∷ []) ≡ drop 6 content =
+    ap (λ (r : List ℕ). take 2 (drop 6 content) ++ r) (sym pair) ∙ take-append-drop 2 (drop 6 content) in
     append_assoc (take 6 content ++ take 2 (drop 6 content)) (get_or content 8 0 ∷ []) (get_or content 9 0 ∷ [])
     ∙ append_assoc (take 6 content) (take 2 (drop 6 content)) (get_or content 8 0 ∷ get_or content 9 0 ∷ [])
     ∙ ap (λ (r : List ℕ). take 6 content ++ r) back
@@ -70,7 +74,8 @@ stated-widths content fits = record {
 }
 
 -- what is read is spelled so
-pub spelled : (content : List ℕ) → length content ≡ 10 → AreBytes content → (fault : Option OtiFault) → IfOk (unless_fault fault (stated content)) (λ o. content ≡ fti_content o)
+pub spelled : (content : List ℕ) → length content ≡ 10 → AreBytes content → (fault : Option OtiFault)
+    → IfOk (unless_fault fault (stated content)) (λ o. content ≡ fti_content o)
 spelled content len fits None = sym (fti_content-stated content len fits)
 spelled content len fits (Some fault) = tt
 

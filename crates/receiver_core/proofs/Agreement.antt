@@ -17,12 +17,15 @@ same_best first second same =
     let functions : whole first ≡ whole second = λ i t. same t i in
     one_best (whole second) (best first) (best second) (subst (λ (objects : Objects). IsBestOf objects (best first)) functions (best_is_best first)) (best_is_best second)
 
-pub agreement : (s : Session) (budget : ℕ) (ps qs : List SymbolPacket) → IsSession s → AreOf s ps → AreOf s qs → AreOneSet (kept budget ps) (kept budget qs) → installed_after budget ps ≡ installed_after budget qs
+pub agreement : (s : Session) (budget : ℕ) (ps qs : List SymbolPacket) → IsSession s → AreOf s ps → AreOf s qs
+    → AreOneSet (kept budget ps) (kept budget qs) → installed_after budget ps ≡ installed_after budget qs
 agreement s budget ps qs session first second one = same_best (held_after budget ps) (held_after budget qs) (same_whole s budget ps qs session first second one)
 
-pub agreement_in_any_order : (s : Session) (budget : ℕ) (ps qs : List SymbolPacket) → IsSession s → AreOf s ps → AreOf s qs → AreOneSet ps qs → set_count (gathered ps) ≤ budget
+pub agreement_in_any_order : (s : Session) (budget : ℕ) (ps qs : List SymbolPacket)
+    → IsSession s → AreOf s ps → AreOf s qs → AreOneSet ps qs → set_count (gathered ps) ≤ budget
     → installed_after budget ps ≡ installed_after budget qs
-agreement_in_any_order s budget ps qs session first second one room = same_best (held_after budget ps) (held_after budget qs) (any_order s budget ps qs session first second one room)
+agreement_in_any_order s budget ps qs session first second one room =
+    same_best (held_after budget ps) (held_after budget qs) (any_order s budget ps qs session first second one room)
 
 pub never_back : (budget : ℕ) (ps qs : List SymbolPacket) → All IsPacket ps → All IsPacket qs → NotOlder (installed_after budget ps) (installed_after budget (ps ++ qs))
 never_back budget ps qs first second =

@@ -106,7 +106,8 @@ top_first objects (Some b) i t e = λ j f. subst (λ k. is_better k (if is_bette
     ] refl)
 
 -- the better of the instance in front and an announced one is announced
-announced_first : (objects : Objects) (r : Option Shown) (i : Shown) (t : ℕ) → complete objects t ≡ Some i → IsAnnounced objects r → IsAnnounced objects (Some (better_of i r))
+announced_first : (objects : Objects) (r : Option Shown) (i : Shown) (t : ℕ)
+    → complete objects t ≡ Some i → IsAnnounced objects r → IsAnnounced objects (Some (better_of i r))
 announced_first objects None i t e known = announced_new objects t i e
 announced_first objects (Some b) i t e known = elim (is_better b i) as (λ x. IsAnnounced objects (Some (if x then b else i))) [
   | true ↦ known
@@ -119,17 +120,19 @@ best_among objects ts = best_of (filter_map (complete objects) ts)
 
 topped_among : (objects : Objects) (ts : List ℕ) → AreTopped objects (best_among objects ts) ts
 topped_among objects [] = tt
-topped_among objects (t ∷ ts) = elim (complete objects t) as (λ o. complete objects t ≡ o → AreTopped objects (best_of (cons_option o (filter_map (complete objects) ts))) (t ∷ ts)) [
-  | None ↦ λ e. (top_of_none objects (best_among objects ts) t e, topped_among objects ts)
-  | Some i ↦ λ e. (top_first objects (best_among objects ts) i t e, topped_below objects (best_among objects ts) i ts (topped_among objects ts))
-] refl
+topped_among objects (t ∷ ts) = elim (complete objects t) as (λ o. complete objects t ≡ o
+    → AreTopped objects (best_of (cons_option o (filter_map (complete objects) ts))) (t ∷ ts)) [
+      | None ↦ λ e. (top_of_none objects (best_among objects ts) t e, topped_among objects ts)
+      | Some i ↦ λ e. (top_first objects (best_among objects ts) i t e, topped_below objects (best_among objects ts) i ts (topped_among objects ts))
+    ] refl
 
 announced_among : (objects : Objects) (ts : List ℕ) → IsAnnounced objects (best_among objects ts)
 announced_among objects [] = tt
-announced_among objects (t ∷ ts) = elim (complete objects t) as (λ o. complete objects t ≡ o → IsAnnounced objects (best_of (cons_option o (filter_map (complete objects) ts)))) [
-  | None ↦ λ e. announced_among objects ts
-  | Some i ↦ λ e. announced_first objects (best_among objects ts) i t e (announced_among objects ts)
-] refl
+announced_among objects (t ∷ ts) = elim (complete objects t) as (λ o. complete objects t ≡ o
+    → IsAnnounced objects (best_of (cons_option o (filter_map (complete objects) ts)))) [
+      | None ↦ λ e. announced_among objects ts
+      | Some i ↦ λ e. announced_first objects (best_among objects ts) i t e (announced_among objects ts)
+    ] refl
 
 -- the identifier is one of these
 abbrev is_among : ℕ → List ℕ → Bool

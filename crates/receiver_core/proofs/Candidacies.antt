@@ -1,5 +1,7 @@
 -- Candidates: how they are found, and how far their files are there.
-use Rattle.std.proofs.Common.{◌≡◌, ℕ, ◌+◌, ◌-◌, ◌<◌, Bool, true, false, ◌||◌, List, [], ◌∷◌, ◌++◌, ◌∙◌, refl, sym, ap, subst, arith, map, take, drop, length, Option, Some, None, eqb-true, take_all, get_or, append-nil, append_assoc, add-one}
+use Rattle.std.proofs.Common.{◌≡◌, ℕ, ◌+◌, ◌-◌, ◌<◌, Bool, true, false, ◌||◌, List, [], ◌∷◌, ◌++◌, ◌∙◌, refl, sym, ap, subst}
+use Rattle.std.proofs.Common.{arith, map, take, drop, length, Option, Some, None, eqb-true, take_all, get_or, append-nil}
+use Rattle.std.proofs.Common.{append_assoc, add-one}
 use Rattle.std.specs.Prelude.{is_some, ◌==◌, slice_set}
 use Rattle.std.proofs.lemmas.Bool.{eq-eqb}
 use Rattle.std.proofs.lemmas.Bool.Decides.{nat_tests}
@@ -12,7 +14,8 @@ use Rattle.carousel_cid.specs.declared.kind.Kind.TheVariants.{File, Descriptor, 
 use Rattle.object_store.specs.Store.{is_in}
 use Rattle.receiver_core.specs.declared.candidate.Candidate.{Candidate}
 use Rattle.receiver_core.specs.Best.{Objects, files_of, Extends}
-use Rattle.receiver_core.specs.Inner.Candidates.{candidates_by, candidates_at, candidates_in, kind_at, toi_of, passing, advanced, is_there, Each, is_file_at, IsCandidate, AreEvery}
+use Rattle.receiver_core.specs.Inner.Candidates.{candidates_by, candidates_at, candidates_in, kind_at, toi_of, passing, advanced}
+use Rattle.receiver_core.specs.Inner.Candidates.{is_there, Each, is_file_at, IsCandidate, AreEvery}
 use Rattle.receiver_core.proofs.Lists.{each_weaker, each_append, each_drop, passing_pass, passing_most, passing_all, set_front}
 use Rattle.receiver_core.proofs.Completing.{tests_of_files, files_of_tests, is_file_kept, kind_at_kept}
 
@@ -34,7 +37,8 @@ by_kind objects t (Some (Descriptor number listed)) e = (record { kind = e; file
 
 pub new_candidates : (objects : Objects) (ts : List ℕ) → Each (IsCandidate objects) (candidates_in objects ts)
 new_candidates objects [] = tt
-new_candidates objects (t ∷ ts) = each_append (IsCandidate objects) (candidates_at objects t) (candidates_in objects ts) (by_kind objects t (kind_at objects t) refl) (new_candidates objects ts)
+new_candidates objects (t ∷ ts) = each_append (IsCandidate objects) (candidates_at objects t)
+    (candidates_in objects ts) (by_kind objects t (kind_at objects t) refl) (new_candidates objects ts)
 
 -- one that stands in either of two lists of candidates stands in both together
 in_joined : (xs ys : List Candidate) (t : ℕ) → is_in t (map toi_of (xs ++ ys)) ≡ (is_in t (map toi_of xs) || is_in t (map toi_of ys))
@@ -59,11 +63,12 @@ itself t = grind (arith, nat_tests)
 -- each fresh descriptor is a candidate
 pub in_candidates : (objects : Objects) (ts : List ℕ) → AreEvery objects ts (candidates_in objects ts)
 in_candidates objects [] t number listed among e = absurd (cc)
-in_candidates objects (u ∷ ts) t number listed among e = elim (u == t) as (λ b. (u == t) ≡ b → (b || is_in t ts) ≡ true → is_in t (map toi_of (candidates_at objects u ++ candidates_in objects ts)) ≡ true) [
-  | true ↦ λ same h. in_first (candidates_at objects u) (candidates_in objects ts) t
-      (subst (λ v. is_in t (map toi_of (candidates_at objects v)) ≡ true) (sym (eqb-true u t same)) (ap (λ k. is_in t (map toi_of (candidates_by t k))) e ∙ itself t))
-  | false ↦ λ apart h. in_second (candidates_at objects u) (candidates_in objects ts) t (in_candidates objects ts t number listed h e)
-] refl among
+in_candidates objects (u ∷ ts) t number listed among e = elim (u == t) as (λ b. (u == t) ≡ b
+    → (b || is_in t ts) ≡ true → is_in t (map toi_of (candidates_at objects u ++ candidates_in objects ts)) ≡ true) [
+      | true ↦ λ same h. in_first (candidates_at objects u) (candidates_in objects ts) t
+          (subst (λ v. is_in t (map toi_of (candidates_at objects v)) ≡ true) (sym (eqb-true u t same)) (ap (λ k. is_in t (map toi_of (candidates_by t k))) e ∙ itself t))
+      | false ↦ λ apart h. in_second (candidates_at objects u) (candidates_in objects ts) t (in_candidates objects ts t number listed h e)
+    ] refl among
 
 -- ---- files that are there
 
@@ -81,7 +86,8 @@ advanced_candidate objects c is =
     }
 
 -- its files are there where all of them are
-pub advanced_ends : (objects : Objects) (c : Candidate) → IsCandidate objects c → is_some (files_of objects c.listed) ≡ true → is_there (advanced (is_file_at objects) c) ≡ true
+pub advanced_ends : (objects : Objects) (c : Candidate) → IsCandidate objects c
+    → is_some (files_of objects c.listed) ≡ true → is_there (advanced (is_file_at objects) c) ≡ true
 advanced_ends objects c is all =
     let f = is_file_at objects in
     let rest = drop c.there c.listed in
@@ -109,15 +115,18 @@ candidates_more objects ts i old some new less before is =
     let joined : candidates_in objects (take (i + 1) ts) ≡ candidates_in objects (take i ts) ++ candidates_at objects last =
     ap (candidates_in objects) (take_more ts i 0 less) ∙ flat_map-append (candidates_at objects) (take i ts) (last ∷ [])
     ∙ ap (λ cs. candidates_in objects (take i ts) ++ cs) (append-nil (candidates_at objects last)) in
-    is ∙ ap (λ cs. cs ++ candidates_at objects last) before ∙ append_assoc old (candidates_in objects (take i ts)) (candidates_at objects last) ∙ ap (λ cs. old ++ cs) (sym joined)
+    is ∙ ap (λ cs. cs ++ candidates_at objects last) before
+    ∙ append_assoc old (candidates_in objects (take i ts)) (candidates_at objects last) ∙ ap (λ cs. old ++ cs) (sym joined)
 
 -- one more candidate is advanced
 pub advanced_more : (f : ℕ → Bool) (items old : List Candidate) (i there : ℕ) (d : Candidate) → i < length old → items ≡ map (advanced f) (take i old) ++ drop i old
     → there ≡ (get_or items i d).there + passing f (drop (get_or items i d).there (get_or items i d).listed)
-    → slice_set items i (record { toi = (get_or items i d).toi; number = (get_or items i d).number; listed = (get_or items i d).listed; there = there }) ≡ map (advanced f) (take (i + 1) old) ++ drop (i + 1) old
+    → slice_set items i (record { toi = (get_or items i d).toi; number = (get_or items i d).number; listed = (get_or items i d).listed; there = there })
+    ≡ map (advanced f) (take (i + 1) old) ++ drop (i + 1) old
 advanced_more f items old i there d less before is =
     let c = get_or items i d in
-    let value : record { toi = c.toi; number = c.number; listed = c.listed; there = there } ≡ advanced f c = λ k. record { toi = c.toi; number = c.number; listed = c.listed; there = is k } in
+    let value : record { toi = c.toi; number = c.number; listed = c.listed; there = there } ≡ advanced f c =
+    λ k. record { toi = c.toi; number = c.number; listed = c.listed; there = is k } in
     ap (slice_set items i) value
     ∙ ap (λ xs. slice_set xs i (advanced f (get_or xs i d))) before
     ∙ set_front (advanced f) old i d less

@@ -71,12 +71,14 @@ listed_differ objects t number listed e =
 
 -- ---- the files
 
-both_there : (f : Option FileOf) (fs : Option (List FileOf)) → is_some (option_and_then (λ x. option_map (λ xs. x ∷ xs) fs) f) ≡ true → (is_some f ≡ true) × (is_some fs ≡ true)
+both_there : (f : Option FileOf) (fs : Option (List FileOf))
+    → is_some (option_and_then (λ x. option_map (λ xs. x ∷ xs) fs) f) ≡ true → (is_some f ≡ true) × (is_some fs ≡ true)
 both_there None fs e = absurd (cc)
 both_there (Some f) None e = absurd (cc)
 both_there (Some f) (Some fs) e = (refl, refl)
 
-there_both : (f : Option FileOf) (fs : Option (List FileOf)) → is_some f ≡ true → is_some fs ≡ true → is_some (option_and_then (λ x. option_map (λ xs. x ∷ xs) fs) f) ≡ true
+there_both : (f : Option FileOf) (fs : Option (List FileOf)) → is_some f ≡ true
+    → is_some fs ≡ true → is_some (option_and_then (λ x. option_map (λ xs. x ∷ xs) fs) f) ≡ true
 there_both None fs e g = absurd (cc)
 there_both (Some f) None e g = absurd (cc)
 there_both (Some f) (Some fs) e g = refl
@@ -91,7 +93,8 @@ files_of_tests objects [] all = refl
 files_of_tests objects (t ∷ ts) all = there_both (file_of objects t) (files_of objects ts) all.0 (files_of_tests objects ts all.1)
 
 kind_named : (t : ℕ) (k : Kind) (f : FileOf) → file_of_kind t k ≡ Some f → f.toi ≡ t
-kind_named t (File location kind body) f e = let same : record { toi = t; location = location; kind = kind; body = body } ≡ f = cc in ap (λ (x : FileOf). x.toi) (sym same)
+kind_named t (File location kind body) f e = let same : record { toi = t; location = location; kind = kind; body = body } ≡ f = cc in
+    ap (λ (x : FileOf). x.toi) (sym same)
 kind_named t (Descriptor number listed) f e = absurd (let no_value : None ≡ Some f = e in cc)
 kind_named t (Unusable cause) f e = absurd (let no_value : None ≡ Some f = e in cc)
 

@@ -6,11 +6,13 @@ use Rattle.object_store.specs.Held.{Held}
 use Rattle.object_store.specs.Verdict.{step}
 use Rattle.receiver_core.specs.Classes.{packet_under, packets_of, held_with, held_with_packet}
 
-pub fold_more : (budget : ℕ) (held : Held) (ps : List SymbolPacket) (p : SymbolPacket) → fold (step budget) held (ps ++ p ∷ []) ≡ step budget (fold (step budget) held ps) p
+pub fold_more : (budget : ℕ) (held : Held) (ps : List SymbolPacket) (p : SymbolPacket)
+    → fold (step budget) held (ps ++ p ∷ []) ≡ step budget (fold (step budget) held ps) p
 fold_more budget held [] p = refl
 fold_more budget held (q ∷ ps) p = fold_more budget (step budget held q) ps p
 
-in_front : (budget : ℕ) (held : Held) (first : Option SymbolPacket) (ps : List SymbolPacket) → fold (step budget) (held_with_packet budget held first) ps ≡ fold (step budget) held (cons_option first ps)
+in_front : (budget : ℕ) (held : Held) (first : Option SymbolPacket) (ps : List SymbolPacket)
+    → fold (step budget) (held_with_packet budget held first) ps ≡ fold (step budget) held (cons_option first ps)
 in_front budget held None ps = refl
 in_front budget held (Some p) ps = refl
 

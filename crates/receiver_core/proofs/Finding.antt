@@ -46,7 +46,8 @@ fresh_are_whole s n t listed fresh = listed.listed t ∙ in_parts n s.ready t �
 
 -- identifiers that stand in front stay in front
 pub front_stays : (cs more : List Candidate) → take (length cs) (map toi_of (cs ++ more)) ≡ map toi_of cs
-front_stays cs more = ap (take (length cs)) (map-append toi_of cs more) ∙ ap (λ n. take n (map toi_of cs ++ map toi_of more)) (sym (length-map cs toi_of)) ∙ take-append_seam (map toi_of cs) (map toi_of more)
+front_stays cs more = ap (take (length cs)) (map-append toi_of cs more)
+    ∙ ap (λ n. take n (map toi_of cs ++ map toi_of more)) (sym (length-map cs toi_of)) ∙ take-append_seam (map toi_of cs) (map toi_of more)
 
 pub record Facts (s : Store) (installed : Option Shown) (known : Standings) (before cs : List Candidate) : Type 0 where
   pub standings : AreStandings (whole s.held) s.ready known
@@ -62,13 +63,17 @@ pub facts : (s : Store) (old known : Standings) (before read cs : List Candidate
     → read ≡ before ++ candidates_in (whole s.held) fresh → cs ≡ map (advanced (is_known known)) read → Facts s installed known before cs
 facts s old known before read cs n installed fresh listed settling is classified more all =
     let objects = whole s.held in
-    let standings = all_standings objects n s.ready old known settling.standings (λ t. classified t ∙ ap (λ ts. cond (is_in t ts) (option_map standing_of_bytes (objects t)) (get nat_cmp old t)) is) in
+    let standings = all_standings objects n s.ready old known settling.standings (λ t. classified t
+    ∙ ap (λ ts. cond (is_in t ts) (option_map standing_of_bytes (objects t)) (get nat_cmp old t)) is) in
     let read_is : read ≡ before ++ candidates_in objects (drop n s.ready) = more ∙ ap (λ ts. before ++ candidates_in objects ts) is in
     let read_are = subst (Each (IsCandidate objects)) (sym read_is) (all_candidates objects (drop n s.ready) before settling.candidates) in
-    let advanced_is : cs ≡ map (advanced (is_file_at objects)) read = all ∙ ap (λ f. map (advanced f) read) (known_is objects s.ready known (record { listed = listed.listed; standings = standings })) in
+    let advanced_is : cs ≡ map (advanced (is_file_at objects)) read = all ∙ ap (λ f. map (advanced f) read)
+    (known_is objects s.ready known (record { listed = listed.listed; standings = standings })) in
     let tois : map toi_of cs ≡ map toi_of read = ap (map toi_of) all ∙ advanced_tois (is_known known) read in
-    let candidates = subst (Each (IsCandidate objects)) (sym advanced_is) (each_map (IsCandidate objects) (IsCandidate objects) (advanced (is_file_at objects)) (advanced_candidate objects) read read_are) in
-    let ends = subst (Each (Ends objects)) (sym advanced_is) (each_map (IsCandidate objects) (Ends objects) (advanced (is_file_at objects)) (advanced_ends objects) read read_are) in
+    let candidates = subst (Each (IsCandidate objects)) (sym advanced_is)
+    (each_map (IsCandidate objects) (IsCandidate objects) (advanced (is_file_at objects)) (advanced_candidate objects) read read_are) in
+    let ends = subst (Each (Ends objects)) (sym advanced_is)
+    (each_map (IsCandidate objects) (Ends objects) (advanced (is_file_at objects)) (advanced_ends objects) read read_are) in
     let every : AreEvery objects s.ready cs = λ t number ts among e.
     ap (is_in t) (tois ∙ ap (map toi_of) read_is) ∙ all_every objects n s.ready before settling.every t number ts among e in
     record {
@@ -92,14 +97,17 @@ facts s old known before read cs n installed fresh listed settling is classified
 
 -- ---- the instance of a candidate
 
-pub not_complete : (objects : Objects) (t number : ℕ) (listed : List ℕ) → kind_at objects t ≡ Some (Descriptor number listed) → files_of objects listed ≡ None → None ≡ complete objects t
+pub not_complete : (objects : Objects) (t number : ℕ) (listed : List ℕ)
+    → kind_at objects t ≡ Some (Descriptor number listed) → files_of objects listed ≡ None → None ≡ complete objects t
 not_complete objects t number listed kind none =
     sym (complete_descriptor objects t number listed kind ∙ ap (option_map (λ fs. record { number = number; descriptor_toi = t; listed = listed; files = fs })) none)
 
-pub made : (objects : Objects) (t number : ℕ) (listed : List ℕ) (files : List FileOf) → kind_at objects t ≡ Some (Descriptor number listed) → files_of objects listed ≡ Some files
+pub made : (objects : Objects) (t number : ℕ) (listed : List ℕ) (files : List FileOf)
+    → kind_at objects t ≡ Some (Descriptor number listed) → files_of objects listed ≡ Some files
     → Some (record { number = number; descriptor_toi = t; listed = listed; files = files }) ≡ complete objects t
 made objects t number listed files kind are =
     sym (complete_descriptor objects t number listed kind ∙ ap (option_map (λ fs. record { number = number; descriptor_toi = t; listed = listed; files = fs })) are)
 
-pub listed_files : (objects : Objects) (t number : ℕ) (listed : List ℕ) (files : List FileOf) → kind_at objects t ≡ Some (Descriptor number listed) → files_of objects listed ≡ Some files → IsListedFiles listed files
+pub listed_files : (objects : Objects) (t number : ℕ) (listed : List ℕ) (files : List FileOf)
+    → kind_at objects t ≡ Some (Descriptor number listed) → files_of objects listed ≡ Some files → IsListedFiles listed files
 listed_files objects t number listed files kind are = record { different = listed_differ objects t number listed kind; in_order = files_named objects listed files are }

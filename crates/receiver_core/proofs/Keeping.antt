@@ -1,5 +1,6 @@
 -- What a receiver keeps between two calls.
-use Rattle.std.proofs.Common.{◌≡◌, ◌≤◌, ℕ, true, false, cond, ◌||◌, List, [], ◌∷◌, ◌++◌, ◌∙◌, refl, sym, ap, subst, arith, map, take, drop, length, ◌<◌, suc, get_or, Option, Some, None, take_all, length-append}
+use Rattle.std.proofs.Common.{◌≡◌, ◌≤◌, ℕ, true, false, cond, ◌||◌, List, [], ◌∷◌, ◌++◌, ◌∙◌, refl, sym, ap, subst, arith, map}
+use Rattle.std.proofs.Common.{take, drop, length, ◌<◌, suc, get_or, Option, Some, None, take_all, length-append}
 use Rattle.std.specs.Prelude.{is_some, option_map, if◌then◌else◌, ◌==◌}
 use Rattle.std.proofs.Math.Seq.{drop-cons}
 use Rattle.std.proofs.lemmas.Bool.Decides.{nat_tests}
@@ -63,7 +64,8 @@ no_fewer ready p kept = elim (completes_object kept) as (λ b. length ready ≤ 
 ]
 
 -- an object that was settled is whole as before
-same_settled : (first second : Objects) (ready : List ℕ) (n t : ℕ) → Extends first second → ((u : ℕ) → is_some (first u) ≡ is_in u ready) → is_in t (take n ready) ≡ true → second t ≡ first t
+same_settled : (first second : Objects) (ready : List ℕ) (n t : ℕ) → Extends first second
+    → ((u : ℕ) → is_some (first u) ≡ is_in u ready) → is_in t (take n ready) ≡ true → second t ≡ first t
 same_settled first second ready n t more listed among =
     let bytes = is_there_some (first t) (listed t ∙ in_parts n ready t ∙ ap (λ b. b || is_in t (drop n ready)) among) in
     more.keeps t bytes.0 bytes.1 ∙ sym bytes.1
@@ -89,8 +91,10 @@ grown s r known cs n installed listed more front longer settling =
         others = settling.standings.others;
       });
       candidates = each_weaker (IsCandidate (whole s.held)) (IsCandidate (whole r.held)) (candidate_kept (whole s.held) (whole r.held) more) cs settling.candidates;
-      every = subst (λ ts. AreEvery (whole r.held) ts cs) (sym front) (λ t number ts e f. settling.every t number ts e (ap (option_map kind_of_object) (sym (again t e)) ∙ f));
-      best = subst (λ ts. IsBestOf (only (whole r.held) ts) installed) (sym front) (subst (λ objects. IsBestOf objects installed) (sym (only_same (whole s.held) (whole r.held) (take n s.ready) again)) settling.best);
+      every = subst (λ ts. AreEvery (whole r.held) ts cs) (sym front)
+          (λ t number ts e f. settling.every t number ts e (ap (option_map kind_of_object) (sym (again t e)) ∙ f));
+      best = subst (λ ts. IsBestOf (only (whole r.held) ts) installed) (sym front)
+          (subst (λ objects. IsBestOf objects installed) (sym (only_same (whole s.held) (whole r.held) (take n s.ready) again)) settling.best);
     }
 
 pub settling_kept : (s r : Store) (p : SymbolPacket) (kept : Kept) (known : Standings) (cs : List Candidate) (n : ℕ) (installed : Option Shown)
@@ -112,17 +116,21 @@ settled_now s known cs installed listed standings candidates every best =
       standings = subst (λ ts. AreStandings (whole s.held) ts known) (sym all) standings;
       candidates = candidates;
       every = subst (λ ts. AreEvery (whole s.held) ts cs) (sym all) every;
-      best = subst (λ ts. IsBestOf (only (whole s.held) ts) installed) (sym all) (subst (λ objects. IsBestOf objects installed) (sym (only_all (whole s.held) s.ready listed.listed)) best);
+      best = subst (λ ts. IsBestOf (only (whole s.held) ts) installed) (sym all)
+          (subst (λ objects. IsBestOf objects installed) (sym (only_all (whole s.held) s.ready listed.listed)) best);
     }
 
 -- where all were settled before, what is installed is the best
-pub settled_best : (s : Store) (known : Standings) (cs : List Candidate) (n : ℕ) (installed : Option Shown) → IsListed s.held s.ready → IsSettling s known cs n installed → n ≡ length s.ready
+pub settled_best : (s : Store) (known : Standings) (cs : List Candidate) (n : ℕ) (installed : Option Shown)
+    → IsListed s.held s.ready → IsSettling s known cs n installed → n ≡ length s.ready
     → IsBestOf (whole s.held) installed
 settled_best s known cs n installed listed settling all =
-    subst (λ objects. IsBestOf objects installed) (ap (only (whole s.held)) (take_all n s.ready (omega (arith, all))) ∙ only_all (whole s.held) s.ready listed.listed) settling.best
+    subst (λ objects. IsBestOf objects installed) (ap (only (whole s.held)) (take_all n s.ready (omega (arith, all)))
+    ∙ only_all (whole s.held) s.ready listed.listed) settling.best
 
 -- where a ready object wasn't settled, not all that is whole was
-pub not_all_settled : (s : Store) (n : ℕ) → IsListed s.held s.ready → n < length s.ready → ((t : ℕ) → is_some (whole s.held t) ≡ true → is_in t (take n s.ready) ≡ true) → ⊥
+pub not_all_settled : (s : Store) (n : ℕ) → IsListed s.held s.ready → n < length s.ready
+    → ((t : ℕ) → is_some (whole s.held t) ≡ true → is_in t (take n s.ready) ≡ true) → ⊥
 not_all_settled s n listed less all =
     let t = get_or s.ready n 0 in
     let behind : is_in t (drop n s.ready) ≡ true = ap (is_in t) (drop-cons s.ready n 0 less) ∙ ap (λ b. b || is_in t (drop (suc n) s.ready)) (itself t) in
@@ -133,7 +141,8 @@ not_all_settled s n listed less all =
     itself x = grind (arith, nat_tests)
 
 -- where there was no memory, all is as before once the fresh standings are forgotten and the new candidates left out
-pub forgotten : (s : Store) (old found known : Standings) (cs more : List Candidate) (n : ℕ) (installed : Option Shown) → IsListed s.held s.ready → IsSettling s old cs n installed
+pub forgotten : (s : Store) (old found known : Standings) (cs more : List Candidate) (n : ℕ)
+    (installed : Option Shown) → IsListed s.held s.ready → IsSettling s old cs n installed
     → ((t : ℕ) → is_in t (drop n s.ready) ≡ false → get nat_cmp found t ≡ get nat_cmp old t)
     → ((t : ℕ) → get nat_cmp known t ≡ cond (is_in t (drop n s.ready)) None (get nat_cmp found t))
     → Each (IsCandidate (whole s.held)) more → take (length cs) (map toi_of more) ≡ map toi_of cs → IsSettling s known (take (length cs) more) n installed
@@ -154,22 +163,27 @@ forgotten s old found known cs more n installed listed settling others gone cand
 
 -- ---- standings
 
-pub known_standing : (held : Held) (settled : List ℕ) (known : Standings) (t : ℕ) (s : Standing) → AreStandings (whole held) settled known → get nat_cmp known t ≡ Some s → s ≡ standing_of held settled t
+pub known_standing : (held : Held) (settled : List ℕ) (known : Standings) (t : ℕ) (s : Standing)
+    → AreStandings (whole held) settled known → get nat_cmp known t ≡ Some s → s ≡ standing_of held settled t
 known_standing held settled known t s are e = elim (is_in t settled) as (λ b. is_in t settled ≡ b → s ≡ standing_by b (maps.get held.objects t) (whole held t)) [
   | false ↦ λ h. absurd (let both : None ≡ Some s = sym (are.others t h) ∙ e in cc)
   | true ↦ λ h. by_bytes (whole held t) (maps.get held.objects t) (sym e ∙ are.there t h) (λ closed. whole_unopened held t closed)
 ] refl where
-  by_bytes : (bytes : Option (List ℕ)) (o : Option ObjectInformation) → Some s ≡ option_map standing_of_bytes bytes → (o ≡ None → bytes ≡ None) → s ≡ standing_by true o bytes
+  by_bytes : (bytes : Option (List ℕ)) (o : Option ObjectInformation)
+      → Some s ≡ option_map standing_of_bytes bytes → (o ≡ None → bytes ≡ None) → s ≡ standing_by true o bytes
   by_bytes None o f closed = absurd (let both : Some s ≡ None = f in cc)
   by_bytes (Some bytes) None f closed = absurd (let both : Some bytes ≡ None = closed refl in cc)
   by_bytes (Some bytes) (Some o) f closed = cc
 
-pub whole_standing : (held : Held) (settled : List ℕ) (known : Standings) (t : ℕ) → AreStandings (whole held) settled known → get nat_cmp known t ≡ None → is_some (whole held t) ≡ true → Whole ≡ standing_of held settled t
-whole_standing held settled known t are none ready = elim (is_in t settled) as (λ b. is_in t settled ≡ b → Whole ≡ standing_by b (maps.get held.objects t) (whole held t)) [
-  | true ↦ λ h. absurd (let bytes = is_there_some (whole held t) ready in let both : None ≡ Some (standing_of_bytes bytes.0) = sym none ∙ are.there t h ∙ ap (option_map standing_of_bytes) bytes.1 in cc)
-  | false ↦ λ h. fresh (whole held t) (maps.get held.objects t) ready (λ closed. whole_unopened held t closed)
-] refl where
-  fresh : (bytes : Option (List ℕ)) (o : Option ObjectInformation) → is_some bytes ≡ true → (o ≡ None → bytes ≡ None) → Whole ≡ standing_by false o bytes
-  fresh None o f closed = absurd (let both : false ≡ true = f in cc)
-  fresh (Some bytes) None f closed = absurd (let both : Some bytes ≡ None = closed refl in cc)
-  fresh (Some bytes) (Some o) f closed = refl
+pub whole_standing : (held : Held) (settled : List ℕ) (known : Standings) (t : ℕ) → AreStandings (whole held) settled known
+    → get nat_cmp known t ≡ None → is_some (whole held t) ≡ true → Whole ≡ standing_of held settled t
+whole_standing held settled known t are none ready =
+    elim (is_in t settled) as (λ b. is_in t settled ≡ b → Whole ≡ standing_by b (maps.get held.objects t) (whole held t)) [
+      | true ↦ λ h. absurd (let bytes = is_there_some (whole held t) ready in
+          let both : None ≡ Some (standing_of_bytes bytes.0) = sym none ∙ are.there t h ∙ ap (option_map standing_of_bytes) bytes.1 in cc)
+      | false ↦ λ h. fresh (whole held t) (maps.get held.objects t) ready (λ closed. whole_unopened held t closed)
+    ] refl where
+      fresh : (bytes : Option (List ℕ)) (o : Option ObjectInformation) → is_some bytes ≡ true → (o ≡ None → bytes ≡ None) → Whole ≡ standing_by false o bytes
+      fresh None o f closed = absurd (let both : false ≡ true = f in cc)
+      fresh (Some bytes) None f closed = absurd (let both : Some bytes ≡ None = closed refl in cc)
+      fresh (Some bytes) (Some o) f closed = refl

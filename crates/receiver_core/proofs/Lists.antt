@@ -1,5 +1,6 @@
 -- Lists, of which each element has something.
-use Rattle.std.proofs.Common.{◌≡◌, ℕ, zero, suc, ◌+◌, ◌≤◌, ◌<◌, Bool, true, false, ◌||◌, not, List, [], ◌∷◌, ◌++◌, ◌∙◌, refl, sym, ap, subst, arith, map, take, drop, length, eqb-true, take-append-drop, add-one, get_or}
+use Rattle.std.proofs.Common.{◌≡◌, ℕ, zero, suc, ◌+◌, ◌≤◌, ◌<◌, Bool, true, false, ◌||◌, not, List, [], ◌∷◌, ◌++◌, ◌∙◌, refl, sym}
+use Rattle.std.proofs.Common.{ap, subst, arith, map, take, drop, length, eqb-true, take-append-drop, add-one, get_or}
 use Rattle.std.specs.Prelude.{◌==◌, if◌then◌else◌, slice_set}
 use Rattle.std.proofs.Math.Seq.{drop-cons}
 use Rattle.std.proofs.lemmas.Bool.{and_parts, not-true}
@@ -74,7 +75,8 @@ apart (suc n) [] t different front = absurd (cc)
 apart (suc n) (u ∷ ts) t different front =
     let parts = and_parts (not (is_in u ts)) (are_different ts) different in
     elim (u == t) as (λ b. (u == t) ≡ b → (b || is_in t (take n ts)) ≡ true → is_in t (drop n ts) ≡ false) [
-      | true ↦ λ same h. subst (λ v. is_in v (drop n ts) ≡ false) (eqb-true u t same) (behind (is_in u (take n ts)) (is_in u (drop n ts)) (sym (in_parts n ts u) ∙ not-true (is_in u ts) parts.0))
+      | true ↦ λ same h. subst (λ v. is_in v (drop n ts) ≡ false) (eqb-true u t same)
+          (behind (is_in u (take n ts)) (is_in u (drop n ts)) (sym (in_parts n ts u) ∙ not-true (is_in u ts) parts.0))
       | false ↦ λ other h. apart n ts t parts.1 h
     ] refl front
   where

@@ -17,7 +17,8 @@ eqb_swap : (t u : ℕ) → (t == u) ≡ (u == t)
 eqb_swap t u = grind (arith, nat_tests)
 
 -- the value at a key, by whether it is the new one and whether it was changed before
-choices : {X : Type 0} (here before : Bool) (new old_value was : X) → (here ≡ true → new ≡ old_value) → cond here new (cond before old_value was) ≡ cond (before || (here || false)) old_value was
+choices : {X : Type 0} (here before : Bool) (new old_value was : X) → (here ≡ true → new ≡ old_value)
+    → cond here new (cond before old_value was) ≡ cond (before || (here || false)) old_value was
 choices true true new old_value was same = same refl
 choices true false new old_value was same = same refl
 choices false true new old_value was same = refl

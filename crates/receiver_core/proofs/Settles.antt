@@ -38,7 +38,8 @@ pub record KnowsAll (objects : Objects) (ready : List ℕ) (known : Standings) :
 
 known_at : (objects : Objects) (ready : List ℕ) (known : Standings) → KnowsAll objects ready known → (t : ℕ) → is_known known t ≡ is_file_at objects t
 known_at objects ready known knows t = elim (objects t) as (λ o. objects t ≡ o → is_known known t ≡ is_file_at objects t) [
-  | None ↦ λ e. ap is_file (knows.standings.others t (sym (knows.listed t) ∙ ap is_some e)) ∙ sym (ap (λ o. is_some (option_and_then (λ bytes. file_of_kind t (kind_of_object bytes)) o)) e)
+  | None ↦ λ e. ap is_file (knows.standings.others t (sym (knows.listed t) ∙ ap is_some e))
+      ∙ sym (ap (λ o. is_some (option_and_then (λ bytes. file_of_kind t (kind_of_object bytes)) o)) e)
   | Some bytes ↦ λ e.
       ap is_file (knows.standings.there t (sym (knows.listed t) ∙ ap is_some e) ∙ ap (option_map standing_of_bytes) e)
       ∙ file_by_kind t (kind_of_object bytes)
@@ -63,7 +64,8 @@ neither true b e = absurd (let both : true ≡ false = e in cc)
 pub all_standings : (objects : Objects) (n : ℕ) (ready : List ℕ) (old new : Standings) → AreStandings objects (take n ready) old
     → ((t : ℕ) → get nat_cmp new t ≡ cond (is_in t (drop n ready)) (option_map standing_of_bytes (objects t)) (get nat_cmp old t)) → AreStandings objects ready new
 all_standings objects n ready old new are step = record {
-  there = λ t among. standing_there (is_in t (take n ready)) (is_in t (drop n ready)) (get nat_cmp new t ≡ option_map standing_of_bytes (objects t)) (sym (in_parts n ready t) ∙ among)
+  there = λ t among. standing_there (is_in t (take n ready)) (is_in t (drop n ready))
+      (get nat_cmp new t ≡ option_map standing_of_bytes (objects t)) (sym (in_parts n ready t) ∙ among)
       (λ fresh. step t ∙ ap (λ b. cond b (option_map standing_of_bytes (objects t)) (get nat_cmp old t)) fresh)
       (λ stale front. step t ∙ ap (λ b. cond b (option_map standing_of_bytes (objects t)) (get nat_cmp old t)) stale ∙ are.there t front);
   others = λ t none. let parts = neither (is_in t (take n ready)) (is_in t (drop n ready)) (sym (in_parts n ready t) ∙ none) in
@@ -72,9 +74,11 @@ all_standings objects n ready old new are step = record {
 
 -- ---- the candidates with the fresh ones, and how far their files are there
 
-pub all_every : (objects : Objects) (n : ℕ) (ready : List ℕ) (cs : List Candidate) → AreEvery objects (take n ready) cs → AreEvery objects ready (cs ++ candidates_in objects (drop n ready))
+pub all_every : (objects : Objects) (n : ℕ) (ready : List ℕ) (cs : List Candidate)
+    → AreEvery objects (take n ready) cs → AreEvery objects ready (cs ++ candidates_in objects (drop n ready))
 all_every objects n ready cs every t number listed among e =
-    standing_there (is_in t (take n ready)) (is_in t (drop n ready)) (is_in t (map toi_of (cs ++ candidates_in objects (drop n ready))) ≡ true) (sym (in_parts n ready t) ∙ among)
+    standing_there (is_in t (take n ready)) (is_in t (drop n ready))
+    (is_in t (map toi_of (cs ++ candidates_in objects (drop n ready))) ≡ true) (sym (in_parts n ready t) ∙ among)
     (λ fresh. in_second cs (candidates_in objects (drop n ready)) t (in_candidates objects (drop n ready) t number listed fresh e))
     (λ stale front. in_first cs (candidates_in objects (drop n ready)) t (every t number listed front e))
 
@@ -128,18 +132,22 @@ find_candidate objects installed cs knows t j e =
     some_equal (Descriptor c.number c.listed) (Descriptor j.number j.listed) (sym is.kind ∙ ap (kind_at objects) one.1.1 ∙ descriptor_of objects t j e) in
     let number = same_number c.number j.number c.listed j.listed kind in
     let files : is_some (files_of objects c.listed) ≡ true =
-    sym (is_some_map (λ fs. record { number = c.number; descriptor_toi = c.toi; listed = c.listed; files = fs }) (files_of objects c.listed)) ∙ ap is_some (sym (complete_descriptor objects c.toi c.number c.listed is.kind) ∙ ap (complete objects) one.1.1 ∙ e) in
+    sym (is_some_map (λ fs. record { number = c.number; descriptor_toi = c.toi; listed = c.listed; files = fs }) (files_of objects c.listed))
+    ∙ ap is_some (sym (complete_descriptor objects c.toi c.number c.listed is.kind) ∙ ap (complete objects) one.1.1 ∙ e) in
     record { c = c; toi = one.1.1 ∙ sym named; number = number; there = ends files; topped = one.1.0.1 (ends files) } where
       is_some_map : {A B : Type 0} (f : A → B) (o : Option A) → is_some (option_map f o) ≡ is_some o
       is_some_map f None = refl
       is_some_map f (Some a) = refl
 
 -- "c isn't above i" of a candidate is "j isn't better than i" of its instance
-as_better : (c : Candidate) (i j : Shown) → c.toi ≡ j.descriptor_toi → c.number ≡ j.number → is_above c.number c.toi i.number i.descriptor_toi ≡ false → is_better j i ≡ false
-as_better c i j toi number e = subst (λ t. is_above j.number t i.number i.descriptor_toi ≡ false) toi (subst (λ n. is_above n c.toi i.number i.descriptor_toi ≡ false) number e)
+as_better : (c : Candidate) (i j : Shown) → c.toi ≡ j.descriptor_toi → c.number ≡ j.number
+    → is_above c.number c.toi i.number i.descriptor_toi ≡ false → is_better j i ≡ false
+as_better c i j toi number e = subst (λ t. is_above j.number t i.number i.descriptor_toi ≡ false)
+    toi (subst (λ n. is_above n c.toi i.number i.descriptor_toi ≡ false) number e)
 
 -- where none is chosen, what is installed stays the best
-pub finds_none : (objects : Objects) (installed : Option Shown) (cs : List Candidate) → Knows objects cs → IsAnnounced objects installed → chosen installed cs ≡ None → IsBestOf objects installed
+pub finds_none : (objects : Objects) (installed : Option Shown) (cs : List Candidate) → Knows objects cs
+    → IsAnnounced objects installed → chosen installed cs ≡ None → IsBestOf objects installed
 finds_none objects None cs knows announced none = λ t. elim (complete objects t) as (λ o. complete objects t ≡ o → o ≡ None) [
   | None ↦ λ e. refl
   | Some j ↦ λ e. absurd (
@@ -157,10 +165,12 @@ finds_none objects (Some i) cs knows announced none = record {
 }
 
 -- what is no better than the installed one isn't better than what is
-not_twice : (c d : Candidate) (i : Shown) → is_above d.number d.toi i.number i.descriptor_toi ≡ false → is_above c.number c.toi i.number i.descriptor_toi ≡ true → is_above d.number d.toi c.number c.toi ≡ false
+not_twice : (c d : Candidate) (i : Shown) → is_above d.number d.toi i.number i.descriptor_toi ≡ false
+    → is_above c.number c.toi i.number i.descriptor_toi ≡ true → is_above d.number d.toi c.number c.toi ≡ false
 not_twice c d i first second = grind (arith, nat_tests)
 
-not_beaten : (installed : Option Shown) (c d : Candidate) → beats_installed installed c ≡ true → beats_installed installed d ≡ false → is_above d.number d.toi c.number c.toi ≡ false
+not_beaten : (installed : Option Shown) (c d : Candidate) → beats_installed installed c ≡ true
+    → beats_installed installed d ≡ false → is_above d.number d.toi c.number c.toi ≡ false
 not_beaten None c d e f = absurd (let both : true ≡ false = f in cc)
 not_beaten (Some i) c d e f = not_twice c d i f e
 
@@ -175,18 +185,21 @@ another (Some i) c files e = λ same.
       itself n t = grind (arith, nat_tests)
 
 -- where one is chosen, what it announces is the best, and another one
-pub finds_some : (objects : Objects) (installed : Option Shown) (cs : List Candidate) (c : Candidate) → Knows objects cs → chosen installed cs ≡ Some c → Finds objects installed (complete objects c.toi)
+pub finds_some : (objects : Objects) (installed : Option Shown) (cs : List Candidate) (c : Candidate)
+    → Knows objects cs → chosen installed cs ≡ Some c → Finds objects installed (complete objects c.toi)
 finds_some objects installed cs c knows is =
     let picked = chosen_has (IsCandidate objects) installed cs c knows.candidates is in
     let files = is_there_some (files_of objects c.listed) (there_files objects c picked.0 picked.1.0) in
     let j : Shown = record { number = c.number; descriptor_toi = c.toi; listed = c.listed; files = files.0 } in
-    let announced : complete objects c.toi ≡ Some j = complete_descriptor objects c.toi c.number c.listed picked.0.kind ∙ ap (option_map (λ fs. record { number = c.number; descriptor_toi = c.toi; listed = c.listed; files = fs })) files.1 in
+    let announced : complete objects c.toi ≡ Some j = complete_descriptor objects c.toi c.number c.listed picked.0.kind
+    ∙ ap (option_map (λ fs. record { number = c.number; descriptor_toi = c.toi; listed = c.listed; files = fs })) files.1 in
     subst (Finds objects installed) (sym announced) (
       record {
         announced = announced;
         greatest = λ t k e.
             let found = find_candidate objects installed cs knows t k e in
-            as_better found.c j k found.toi found.number (elim (beats_installed installed found.c) as (λ b. beats_installed installed found.c ≡ b → is_above found.c.number found.c.toi c.number c.toi ≡ false) [
+            as_better found.c j k found.toi found.number (elim (beats_installed installed found.c)
+            as (λ b. beats_installed installed found.c ≡ b → is_above found.c.number found.c.toi c.number c.toi ≡ false) [
               | true ↦ λ h. sym (ap (λ b. beats b found.c) is) ∙ found.topped h
               | false ↦ λ h. not_beaten installed c found.c picked.1.1 h
             ] refl);

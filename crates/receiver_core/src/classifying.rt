@@ -25,7 +25,8 @@ pub fn classify_all(
     candidates: &mut Vec<Candidate>,
 ) -> Result<(), AllocError>
     requires { (t : ℕ) → is_in t fresh.now ≡ true → is_some (whole store.now.held t) ≡ true }
-    ensures standings { OnOk result ((t : ℕ) → get nat_cmp standings.new t ≡ cond (is_in t fresh.now) (option_map standing_of_bytes (whole store.now.held t)) (get nat_cmp standings.old t)) }
+    ensures standings { OnOk result ((t : ℕ) →
+        get nat_cmp standings.new t ≡ cond (is_in t fresh.now) (option_map standing_of_bytes (whole store.now.held t)) (get nat_cmp standings.old t)) }
     ensures candidates { OnOk result (candidates.new.items ≡ candidates.old.items ++ candidates_in (whole store.now.held) fresh.now) }
     ensures others { OnErr result ((t : ℕ) → is_in t fresh.now ≡ false → get nat_cmp standings.new t ≡ get nat_cmp standings.old t) }
     ensures more { OnErr result ((m : ℕ) × (candidates.new.items ≡ candidates.old.items ++ candidates_in (whole store.now.held) (take m fresh.now))) }

@@ -7,7 +7,9 @@ use Rattle.std.proofs.lemmas.List.FromFn.{length-map-range_with_len, get_or-map-
 use Rattle.std.proofs.lemmas.Bool.{cases_eq, cases_lt, cond-true, cond-false}
 use Rattle.gf256.specs.Field.{product, inverse}
 use Rattle.gf256.specs.Polynomial.{power, value, AreBytes, AreDifferent, Agree}
-use Rattle.gf256.proofs.Public.{sum_lt, equal_from_sum, product_lt, product_comm, product_assoc, product_one, one_product, product_zero, zero_product, product_inverse, inverse_lt, product_some, power_lt, power_injective, equal_where_agree}
+use Rattle.gf256.proofs.Public.{sum_lt, equal_from_sum, product_lt, product_comm, product_assoc, product_one, one_product}
+use Rattle.gf256.proofs.Public.{product_zero, zero_product, product_inverse, inverse_lt, product_some, power_lt, power_injective}
+use Rattle.gf256.proofs.Public.{equal_where_agree}
 use Rattle.rs_code.specs.Interpolation.{factor, others, weight, weighed, field_sum}
 use Rattle.rs_code.specs.Symbol.{IsSymbol}
 use Rattle.rs_code.proofs.Polynomials.{IsPolynomial, polynomial_same, polynomial_zero, polynomial_one, polynomial_sum, polynomial_times}
@@ -136,7 +138,8 @@ polynomial_weighed p k s (suc n) are len bytes le =
     let ld : inverse (others p k n (p n)) < 256 = inverse_lt _ (others_lt p k n (p n) (are.elements n)) in
     let ldb : product d b < 256 = product_lt d b ld in
     polynomial_same k (λ x. bit_xor (weighed p k s n x) (product (product d b) (others p k n x))) (weighed p k s (suc n))
-    (polynomial_sum k (product d b) (weighed p k s n) (others p k n) ldb (polynomial_weighed p k s n are len bytes (omega arith)) (polynomial_others k p k n are (omega arith)))
+    (polynomial_sum k (product d b) (weighed p k s n)
+    (others p k n) ldb (polynomial_weighed p k s n are len bytes (omega arith)) (polynomial_others k p k n are (omega arith)))
     (λ x lx. ap (bit_xor (weighed p k s n x))
     (product_comm (product d b) (others p k n x) ldb (others_lt p k n x lx) ∙ sym (product_assoc (others p k n x) d b (others_lt p k n x lx) ld)))
 

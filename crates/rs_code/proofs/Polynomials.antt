@@ -7,7 +7,8 @@ use Rattle.std.proofs.lemmas.List.Elements.{All-nil, All-cons}
 use Rattle.gf256.specs.Field.{IsByte, product}
 use Rattle.gf256.specs.Polynomial.{value, AreBytes}
 use Rattle.gf256.specs.Row.{added_row}
-use Rattle.gf256.proofs.Public.{sum_lt, product_comm, product_zero, sum_product, horner, head_byte, tail_bytes, horner_lt, value_is_horner, value-added_row, added_row_bytes, length-added_row}
+use Rattle.gf256.proofs.Public.{sum_lt, product_comm, product_zero, sum_product, horner, head_byte, tail_bytes, horner_lt}
+use Rattle.gf256.proofs.Public.{value_is_horner, value-added_row, added_row_bytes, length-added_row}
 
 -- k coefficients have the function's values
 pub record IsPolynomial (k : ℕ) (f : ℕ → ℕ) : Type 0 where

@@ -7,7 +7,9 @@ use Rattle.std.proofs.lemmas.List.{map-id}
 use Rattle.std.proofs.lemmas.List.FromFn.{get_or-range_with_len, length-range_with_len, map-range_with_len_more}
 use Rattle.gf256.specs.Field.{double, product}
 use Rattle.gf256.specs.Polynomial.{power}
-use Rattle.gf256.proofs.Public.{sum_lt, equal_from_sum, product_lt, product_comm, product_assoc, product_one, one_product, product_some, product_double, double_product, double_lt, double_sum, power_lt, power_some, power_injective}
+use Rattle.gf256.proofs.Public.{sum_lt, equal_from_sum, product_lt, product_comm, product_assoc, product_one, one_product}
+use Rattle.gf256.proofs.Public.{product_some, product_double, double_product, double_lt, double_sum, power_lt, power_some}
+use Rattle.gf256.proofs.Public.{power_injective}
 use Rattle.rs_code.specs.Interpolation.{factor, others}
 use Rattle.rs_code.specs.Weights.{ArePlaces, point_of}
 use Rattle.rs_code.proofs.Interpolate.{powers_are_points, factor_own, factor_other, factor_lt, others_lt}
@@ -77,7 +79,8 @@ past (suc n) i x less lx =
 
 -- the product at one place's point and that at the next, each times what it lacks
 moved : (n j : ℕ) → j < n
-    → product (others power (suc n) j (power j)) (product (power n) (bit_xor (power (suc j)) 1)) ≡ product (others power (suc n) (suc j) (power (suc j))) (bit_xor (power (suc j)) (power (suc n)))
+    → product (others power (suc n) j (power j)) (product (power n) (bit_xor (power (suc j)) 1))
+    ≡ product (others power (suc n) (suc j) (power (suc j))) (bit_xor (power (suc j)) (power (suc n)))
 unfolding others power
 moved n j less =
     let x : ℕ = power j in
@@ -148,7 +151,8 @@ source_point k i less =
     let is : 0 + i ≡ i = omega arith in ap power (get_or-range_with_len 0 k i 0 less ∙ is)
 
 -- the product of distances between source places
-pub source_others : (k i : ℕ) → i < k → others (point_of (range_with_len 0 k)) (length (range_with_len 0 k)) i (point_of (range_with_len 0 k) i) ≡ others power k i (power i)
+pub source_others : (k i : ℕ) → i < k → others (point_of (range_with_len 0 k))
+    (length (range_with_len 0 k)) i (point_of (range_with_len 0 k) i) ≡ others power k i (power i)
 source_others k i less =
     ap₂ (λ n x. others (point_of (range_with_len 0 k)) n i x) (length-range_with_len 0 k) (source_point k i less)
     ∙ others_same (point_of (range_with_len 0 k)) power k i (power i) (λ m lm. source_point k m lm)

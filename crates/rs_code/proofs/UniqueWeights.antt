@@ -42,7 +42,8 @@ sum_unit (suc n) i f g less lf one null =
 
 -- the weight of a place is the value of the polynomial that is 1 at its point and 0 at the others'
 weight_is_value : (places w : List ℕ) (at i : ℕ) → ArePlaces places → AreWeights places at w → i < length places
-    → (cs : List ℕ) → AreBytes cs → length cs ≡ length places → value cs (point_of places i) ≡ 1 → ((j : ℕ) → j < length places → j ≢ i → value cs (point_of places j) ≡ 0)
+    → (cs : List ℕ) → AreBytes cs → length cs ≡ length places → value cs (point_of places i) ≡ 1
+    → ((j : ℕ) → j < length places → j ≢ i → value cs (point_of places j) ≡ 0)
     → get_or w i 0 ≡ value cs (power at)
 weight_is_value places w at i are weights less cs bytes len one null =
     let lt : (j : ℕ) → get_or w j 0 < 256 =

@@ -1,5 +1,6 @@
 -- The bytes of rows, one after another.
-use Rattle.std.proofs.Common.{◌≡◌, ℕ, ◌+◌, ◌-◌, ◌*◌, ◌<◌, ◌≤◌, List, ◌++◌, length, get_or, take, drop, refl, sym, ap, ◌∙◌, arith, get_or-take, get_or-drop, length-take, length-drop, length-append}
+use Rattle.std.proofs.Common.{◌≡◌, ℕ, ◌+◌, ◌-◌, ◌*◌, ◌<◌, ◌≤◌, List, ◌++◌, length, get_or, take, drop, refl, sym, ap, ◌∙◌, arith}
+use Rattle.std.proofs.Common.{get_or-take, get_or-drop, length-take, length-drop, length-append}
 use Rattle.std.proofs.lemmas.Nat.{row_fits}
 use Rattle.std.proofs.lemmas.List.{drop-take}
 use Rattle.std.proofs.lemmas.Slice.{take-put_mid_below, between-put_mid}
@@ -31,7 +32,8 @@ row_before size m j k block row less within =
     ∙ drop-take (j * size) size block
 
 -- and row m is what was written
-pub row_here : (size m : ℕ) (block row : List ℕ) → m * size ≤ length block → length row ≡ size → row_at size (put_mid (m * size) (m * size + size - m * size) block row) m ≡ row
+pub row_here : (size m : ℕ) (block row : List ℕ) → m * size ≤ length block → length row ≡ size
+    → row_at size (put_mid (m * size) (m * size + size - m * size) block row) m ≡ row
 row_here size m block row within long =
     let same : m * size + size - m * size ≡ size = omega arith in
     let a : ℕ = m * size in
@@ -40,4 +42,11 @@ row_here size m block row within long =
 -- a write of a part leaves the length
 pub length-put_mid : (a k : ℕ) (xs ys : List ℕ) → a + k ≤ length xs → length ys ≡ k → length (put_mid a k xs ys) ≡ length xs
 length-put_mid a k xs ys within long =
-    omega (arith, length-append (take a xs) (ys ++ drop k (drop a xs)), length-append ys (drop k (drop a xs)), length-take a xs, length-drop k (drop a xs), length-drop a xs)
+    omega (
+      arith,
+      length-append (take a xs) (ys ++ drop k (drop a xs)),
+      length-append ys (drop k (drop a xs)),
+      length-take a xs,
+      length-drop k (drop a xs),
+      length-drop a xs,
+    )

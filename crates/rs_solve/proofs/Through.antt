@@ -11,7 +11,8 @@ use Rattle.rs_code.specs.Interpolation.{weighed}
 use Rattle.rs_code.specs.SourceRows.{column, cut}
 use Rattle.rs_code.specs.Symbol.{IsSymbol}
 use Rattle.rs_code.specs.Weights.{ArePlaces, point_of}
-use Rattle.rs_code.proofs.Public.{IsPolynomial, ArePoints, places_are_points, one_polynomial, polynomial_weighed, weighed_after, interpolates, symbol_unique, length-column, get_or-column, column_bytes}
+use Rattle.rs_code.proofs.Public.{IsPolynomial, ArePoints, places_are_points, one_polynomial, polynomial_weighed, weighed_after}
+use Rattle.rs_code.proofs.Public.{interpolates, symbol_unique, length-column, get_or-column, column_bytes}
 use Rattle.rs_solve.specs.Solution.{HasSymbols, IsSolution, row_at}
 use Rattle.rs_solve.specs.Inner.Values.{IsRowAt}
 use Rattle.rs_solve.proofs.RowBytes.{length-row_at, byte_of_row}
@@ -140,12 +141,14 @@ same_byte size places rows b c are bb bc sb sc i at less within =
     ∙ get_or-column k size at i c less within
 
 -- places and rows have one solution
-pub one_solution_only : (size : ℕ) (places rows b c : List ℕ) → ArePlaces places → AreBytes b → AreBytes c → IsSolution size places rows b → IsSolution size places rows c → b ≡ c
+pub one_solution_only : (size : ℕ) (places rows b c : List ℕ) → ArePlaces places → AreBytes b
+    → AreBytes c → IsSolution size places rows b → IsSolution size places rows c → b ≡ c
 one_solution_only size places rows b c are bb bc sb sc =
     ext_get_or 0 b c (sb.whole ∙ sym sc.whole)
     (λ n less.
     let whole : length b ≡ length places * size = sb.whole in
-    let some : 0 < size = ⊎_elim (λ null. let zero : length places * 0 ≡ 0 = omega arith in let none : length b ≡ 0 = whole ∙ ap (λ s. length places * s) null ∙ zero in absurd (omega arith)) (λ ne. omega arith) (cases_eq size 0) in
+    let some : 0 < size = ⊎_elim (λ null. let zero : length places * 0 ≡ 0 = omega arith in let none : length b ≡ 0 =
+    whole ∙ ap (λ s. length places * s) null ∙ zero in absurd (omega arith)) (λ ne. omega arith) (cases_eq size 0) in
     let place : n / size * size + n % size ≡ n = div-add-mod' n size in
     let row : n / size < length places = div_below n size (length places) some (omega arith) in
     let within : n % size < size = mod_below n size some in

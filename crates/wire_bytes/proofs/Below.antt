@@ -1,5 +1,6 @@
 -- Tests, counts and sums over the numbers below a bound.
-use Rattle.std.proofs.Common.{◌≡◌, ◌≢◌, ℕ, zero, suc, ◌+◌, ◌<◌, ◌≤◌, Bool, true, false, ◌&&◌, List, [], ◌∷◌, ◌++◌, length, get_or, All, AllPairs, refl, sym, ap, subst, ◌∙◌, arith, add-one, inl, inr}
+use Rattle.std.proofs.Common.{◌≡◌, ◌≢◌, ℕ, zero, suc, ◌+◌, ◌<◌, ◌≤◌, Bool, true, false, ◌&&◌, List, [], ◌∷◌, ◌++◌, length, get_or}
+use Rattle.std.proofs.Common.{All, AllPairs, refl, sym, ap, subst, ◌∙◌, arith, add-one, inl, inr}
 use Rattle.std.specs.Prelude.{if◌then◌else◌}
 use Rattle.std.proofs.lemmas.Bool.{cases_lt, and_parts}
 use Rattle.std.proofs.Math.ListN.{get_or-append}
@@ -188,5 +189,6 @@ which_has (suc n) p x less passes = elim (cases_lt x n) [
   | inr at ↦
       let same : x ≡ n = omega arith in
       let here : p n ≡ true = ap p (sym same) ∙ passes in
-      subst (λ b. StandsIn (which_below n p ++ (if b then n ∷ [] else [])) x) (sym here) (subst (StandsIn (which_below n p ++ n ∷ [])) (sym same) (stands_last (which_below n p) n))
+      subst (λ b. StandsIn (which_below n p ++ (if b then n ∷ [] else [])) x) (sym here)
+      (subst (StandsIn (which_below n p ++ n ∷ [])) (sym same) (stands_last (which_below n p) n))
 ]

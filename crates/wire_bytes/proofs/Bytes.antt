@@ -1,7 +1,9 @@
 -- Lists of bytes, and their parts.
-use Rattle.std.proofs.Common.{◌≡◌, ℕ, zero, suc, ◌+◌, ◌-◌, ◌<◌, ◌≤◌, true, List, [], ◌∷◌, ◌++◌, length, get_or, take, drop, replicate, refl, sym, ap, ◌∙◌, arith, inl, inr, All, ◌==◌, eqb}
+use Rattle.std.proofs.Common.{◌≡◌, ℕ, zero, suc, ◌+◌, ◌-◌, ◌<◌, ◌≤◌, true, List, [], ◌∷◌, ◌++◌, length, get_or, take, drop}
+use Rattle.std.proofs.Common.{replicate, refl, sym, ap, ◌∙◌, arith, inl, inr, All, ◌==◌, eqb}
 use Rattle.std.proofs.lemmas.Bool.{cases_lt, eqb-true, eq-eqb, and_parts, and_from}
-use Rattle.std.proofs.lemmas.List.{get_or-drop, get_or-take, get_or_past, length-take, length-drop, length-append, length-replicate, append-nil, take_at, take-append-drop, drop-drop}
+use Rattle.std.proofs.lemmas.List.{get_or-drop, get_or-take, get_or_past, length-take, length-drop, length-append}
+use Rattle.std.proofs.lemmas.List.{length-replicate, append-nil, take_at, take-append-drop, drop-drop}
 use Rattle.std.proofs.lemmas.List.Elements.{All-append}
 use Rattle.wire_bytes.specs.Bytes.{IsByte, AreBytes, are_zero, zero_filled}
 
@@ -35,7 +37,8 @@ bytes_take n xs bytes = bytes_by_place (take n xs) (λ i. elim (cases_lt i n) [
 pub cut_at : (at next : ℕ) (xs : List ℕ) → at ≤ next → drop at xs ≡ take (next - at) (drop at xs) ++ drop next xs
 cut_at at next xs le =
     let same : at + (next - at) ≡ next = omega arith in
-    sym (take-append-drop (next - at) (drop at xs)) ∙ ap (λ (ys : List ℕ). take (next - at) (drop at xs) ++ ys) (drop-drop (next - at) at xs ∙ ap (λ (n : ℕ). drop n xs) same)
+    sym (take-append-drop (next - at) (drop at xs))
+    ∙ ap (λ (ys : List ℕ). take (next - at) (drop at xs) ++ ys) (drop-drop (next - at) at xs ∙ ap (λ (n : ℕ). drop n xs) same)
 
 -- the length of such a piece
 pub length_piece : (at next : ℕ) (xs : List ℕ) → at ≤ next → next ≤ length xs → length (take (next - at) (drop at xs)) ≡ next - at

@@ -80,10 +80,12 @@ bytes_of_number (suc n) x zero d lt = byte_fits n x
 bytes_of_number (suc n) x (suc i) d lt = bytes_of_number n x i d (omega arith)
 
 -- the bytes from a place on are those of the number there, and the rest
-pub number_piece : (at n : ℕ) (bytes : List ℕ) → at + n ≤ length bytes → AreBytes bytes → drop at bytes ≡ big_bytes n (big_number n (drop at bytes)) ++ drop (at + n) bytes
+pub number_piece : (at n : ℕ) (bytes : List ℕ) → at + n ≤ length bytes → AreBytes bytes
+    → drop at bytes ≡ big_bytes n (big_number n (drop at bytes)) ++ drop (at + n) bytes
 number_piece at n bytes le are =
     let front = big_bytes-big_number n (drop at bytes) (omega (arith, length-drop at bytes)) (bytes_drop at bytes are) in
-    sym (ap (λ (xs : List ℕ). xs ++ drop (at + n) bytes) front ∙ ap (λ (xs : List ℕ). take n (drop at bytes) ++ xs) (sym (drop-drop n at bytes)) ∙ take-append-drop n (drop at bytes))
+    sym (ap (λ (xs : List ℕ). xs ++ drop (at + n) bytes) front
+    ∙ ap (λ (xs : List ℕ). take n (drop at bytes) ++ xs) (sym (drop-drop n at bytes)) ∙ take-append-drop n (drop at bytes))
 
 -- the byte of a number of one byte
 pub one_byte : (x : ℕ) → x < 256 → big_bytes 1 x ≡ x ∷ []

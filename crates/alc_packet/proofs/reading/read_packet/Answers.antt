@@ -7,7 +7,8 @@ use Rattle.alc_packet.specs.Packet.{IsPacket}
 use Rattle.alc_packet.specs.Pieces.{Pieces, fti_contents}
 use Rattle.alc_packet.specs.Refusal.{packet_in}
 use Rattle.alc_packet.proofs.Packets.{made}
-use Rattle.alc_packet.proofs.Readings.{HasContent, HasInformation, HasValues, refused_header, refused_fti, refused_information, refused_payload, past_payload, values_are_packet, values_read}
+use Rattle.alc_packet.proofs.Readings.{HasContent, HasInformation, HasValues, refused_header, refused_fti, refused_information}
+use Rattle.alc_packet.proofs.Readings.{refused_payload, past_payload, values_are_packet, values_read}
 use Rattle.alc_packet.proofs.reading.read_packet.Goals as goal
 
 pub returns-in-Some : goal.returns-in-Some
@@ -42,7 +43,8 @@ returns-in-Some-first_refusal c =
     let content : HasContent x c.in_ok-content.content.now = record { header = c.in_default.ensures x.ftis x.payload; only = c.in_ok-content.ensures.found } in
     let information : HasInformation x c.in_ok-oti.oti = record { content = c.in_ok-content.content.now; has = content; read = c.in_ok-oti.ensures.exact } in
     let values = past_payload x c.in_ok-oti.oti information c.in_ok-sbn.ensures.long in
-    let line = c.in-Some-first_refusal.ensures.first (packet_in x) values.1 (sym c.in_ok-sbn.ensures.sbn) (sym c.in_ok-sbn.ensures.esi) (sym c.in_ok-sbn.ensures.symbol) in
+    let line = c.in-Some-first_refusal.ensures.first (packet_in x) values.1 (sym c.in_ok-sbn.ensures.sbn)
+    (sym c.in_ok-sbn.ensures.esi) (sym c.in_ok-sbn.ensures.symbol) in
     sym (values.0 ∙ ap (λ (fault : Option Refusal). unless_fault fault (packet_in x)) (sym line))
 
 pub invariant_of-result : goal.invariant_of-result
@@ -53,7 +55,8 @@ invariant_of-result c =
     let oti = (past_payload x c.in_ok-oti.oti information c.in_ok-sbn.ensures.long).1 in
     let none = c.in_default-first_refusal.ensures.first (packet_in x) oti (sym c.in_ok-sbn.ensures.sbn) (sym c.in_ok-sbn.ensures.esi) (sym c.in_ok-sbn.ensures.symbol) in
     let values : HasValues x c.in_ok-oti.oti = record { information = information; long = c.in_ok-sbn.ensures.long; none = none } in
-    let same = made (packet_in x) _ _ _ _ _ _ _ (ap (λ (h : Header). h.tsi) c.header.view_is) (ap (λ (h : Header). h.toi) c.header.view_is) (sym oti) c.in_ok-sbn.ensures.sbn c.in_ok-sbn.ensures.esi c.in_ok-sbn.ensures.symbol (ap (λ (h : Header). h.close_session) c.header.view_is) in
+    let same = made (packet_in x) _ _ _ _ _ _ _ (ap (λ (h : Header). h.tsi) c.header.view_is) (ap (λ (h : Header). h.toi) c.header.view_is)
+    (sym oti) c.in_ok-sbn.ensures.sbn c.in_ok-sbn.ensures.esi c.in_ok-sbn.ensures.symbol (ap (λ (h : Header). h.close_session) c.header.view_is) in
     subst IsPacket (sym same) (values_are_packet x c.in_ok-oti.oti values (subst IsHeader c.header.view_is c.header.invariant) c.in_default-first_refusal.ensures.sound)
 
 pub returns : goal.returns
@@ -64,5 +67,6 @@ returns c =
     let oti = (past_payload x c.in_ok-oti.oti information c.in_ok-sbn.ensures.long).1 in
     let none = c.in_default-first_refusal.ensures.first (packet_in x) oti (sym c.in_ok-sbn.ensures.sbn) (sym c.in_ok-sbn.ensures.esi) (sym c.in_ok-sbn.ensures.symbol) in
     let values : HasValues x c.in_ok-oti.oti = record { information = information; long = c.in_ok-sbn.ensures.long; none = none } in
-    let same = made (packet_in x) _ _ _ _ _ _ _ (ap (λ (h : Header). h.tsi) c.header.view_is) (ap (λ (h : Header). h.toi) c.header.view_is) (sym oti) c.in_ok-sbn.ensures.sbn c.in_ok-sbn.ensures.esi c.in_ok-sbn.ensures.symbol (ap (λ (h : Header). h.close_session) c.header.view_is) in
+    let same = made (packet_in x) _ _ _ _ _ _ _ (ap (λ (h : Header). h.tsi) c.header.view_is) (ap (λ (h : Header). h.toi) c.header.view_is)
+    (sym oti) c.in_ok-sbn.ensures.sbn c.in_ok-sbn.ensures.esi c.in_ok-sbn.ensures.symbol (ap (λ (h : Header). h.close_session) c.header.view_is) in
     ap Ok same ∙ values_read x c.in_ok-oti.oti values

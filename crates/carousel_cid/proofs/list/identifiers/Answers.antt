@@ -19,7 +19,8 @@ loop-at-preserved c =
     let next : at + length text + 1 ≡ at + (length text + 1) = omega arith in
     let first : texts_from at list ≡ text ∷ texts_from (at + (length text + 1)) list = c.text_at-text.ensures.first ∙ ap (λ k. text ∷ texts_from k list) next in
     record {
-      all = walk_on c.loop-at.listed.items c.add_entry.new.listed.items text c.read_entry.result (texts_from at list) (texts_from (at + (length text + 1)) list) first c.read_entry.ensures.entry c.in_ok-add_entry.ensures.ok
+      all = walk_on c.loop-at.listed.items c.add_entry.new.listed.items text c.read_entry.result (texts_from at list)
+          (texts_from (at + (length text + 1)) list) first c.read_entry.ensures.entry c.in_ok-add_entry.ensures.ok
           ∙ c.loop-at.invariant.all;
       keys = c.in_ok-add_entry.ensures.keys;
       place = omega (arith, c.text_at-text.ensures.within);

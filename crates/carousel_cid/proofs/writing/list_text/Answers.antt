@@ -8,4 +8,5 @@ pub loop-toi-preserved : goal.loop-toi-preserved
 loop-toi-preserved c =
     let xs = c.args.listed.now in
     let i = c.loop-toi.toi-index in
-    c.in_ok-push_identifier.ensures ∙ ap (λ ys. with_text ys (decimal (get_or xs i 0))) c.loop-toi.invariant ∙ sym (list_text_more xs i c.loop-toi-test.true (omega (arith, c.type_inv.listed 0)))
+    c.in_ok-push_identifier.ensures ∙ ap (λ ys. with_text ys (decimal (get_or xs i 0))) c.loop-toi.invariant
+    ∙ sym (list_text_more xs i c.loop-toi-test.true (omega (arith, c.type_inv.listed 0)))

@@ -18,4 +18,5 @@ returns-clause-read_again c =
     let number = c.args.number in
     let listed = c.args.listed.now in
     let reads = reads_written_descriptor number listed (omega arith) c.requires.few c.requires.different c.requires.small in
-    at_answer (λ v. v.items) (λ o. kind_of_object o ≡ Descriptor number listed) c.descriptor_object.result (descriptor_bytes number listed) c.descriptor_object.ensures (descriptor_read (descriptor_bytes number listed) number listed reads)
+    at_answer (λ v. v.items) (λ o. kind_of_object o ≡ Descriptor number listed) c.descriptor_object.result (descriptor_bytes number listed)
+    c.descriptor_object.ensures (descriptor_read (descriptor_bytes number listed) number listed reads)

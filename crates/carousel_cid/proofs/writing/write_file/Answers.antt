@@ -23,4 +23,5 @@ returns-clause-read_again c =
     let body = c.args.body.now in
     let small : length body < 2 ^ 64 = omega (arith, c.type_inv.body) in
     let reads = reads_written_file location kind body c.requires.somewhere c.requires.location (type_copied c.args.kind c.requires.kind) small c.requires.texts in
-    at_answer (λ v. v.items) (λ o. kind_of_object o ≡ File location kind body) c.file_object.result (file_bytes location kind body) c.file_object.ensures (file_read (file_bytes location kind body) location kind body reads)
+    at_answer (λ v. v.items) (λ o. kind_of_object o ≡ File location kind body) c.file_object.result (file_bytes location kind body)
+    c.file_object.ensures (file_read (file_bytes location kind body) location kind body reads)

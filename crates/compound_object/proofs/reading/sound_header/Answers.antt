@@ -1,10 +1,12 @@
 use Rattle.std.proofs.Common.{◌≡◌, ◌≤◌, ◌<◌, ◌⊎◌, length, inl, inr, sym, ap, ◌∙◌, arith}
 use Rattle.wire_bytes.specs.Bytes.{are_zero}
 use Rattle.compound_object.specs.Reading.{header_length, body_start, encoding_in}
-use Rattle.compound_object.proofs.Refusals.{refused_short, refused_version, refused_length, refused_format, refused_gzip, refused_fill, refused_sum, not_refused, filling_is}
+use Rattle.compound_object.proofs.Refusals.{refused_short, refused_version, refused_length, refused_format, refused_gzip}
+use Rattle.compound_object.proofs.Refusals.{refused_fill, refused_sum, not_refused, filling_is}
 use Rattle.compound_object.proofs.reading.sound_header.Goals as goal
 use Rattle.compound_object.proofs.reading.sound_header.Goals.{then-bytes-ne0-2-via-then-bytes-ne0-2, then-bytes-ne0-2-via-else-bytes-ne0-2+then-bytes-gt1}
-use Rattle.compound_object.proofs.reading.sound_header.Goals.{then-header_length-lt8-via-then-header_length-lt8, then-header_length-lt8-via-else-header_length-lt8+then-body_start-bytes}
+use Rattle.compound_object.proofs.reading.sound_header.Goals.{then-header_length-lt8-via-then-header_length-lt8}
+use Rattle.compound_object.proofs.reading.sound_header.Goals.{then-header_length-lt8-via-else-header_length-lt8+then-body_start-bytes}
 
 pub returns-then-bytes-lt8-clause-fault : goal.returns-then-bytes-lt8-clause-fault
 returns-then-bytes-lt8-clause-fault c = refused_short c.args.bytes.now c.if-bytes-lt8.true
@@ -70,7 +72,8 @@ returns-then-stated-found-clause-fault c =
     let zeros = ap are_zero (sym filling) ∙ sym c.if-not-is_zero.ensures in
     let stated = c.stated_sum-stated.ensures in
     let found = c.found_sum-found.ensures in
-    rw (stated, found) (refused_sum o c.if-bytes-lt8.false c.if-bytes-ne0.false least within c.if-bytes-ne0-2.false plain zeros (λ e. c.if-stated-found.true (stated ∙ e ∙ sym found)))
+    rw (stated, found) (refused_sum o c.if-bytes-lt8.false c.if-bytes-ne0.false least within
+    c.if-bytes-ne0-2.false plain zeros (λ e. c.if-stated-found.true (stated ∙ e ∙ sym found)))
 
 pub returns-clause-sound : goal.returns-clause-sound
 returns-clause-sound c =

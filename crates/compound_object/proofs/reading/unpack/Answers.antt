@@ -18,7 +18,8 @@ returns-in_err-fields-clause-reading c =
     let o = c.args.bytes.now in
     let h = c.in_ok-header_length in
     let fault = c.in_err-fields.field-0.0 in
-    rw (p.1, p.2) (Fails_fields o fault (take (h.header_length - 8) (drop 8 o)) h.ensures.sound (metadata_is o h.header_length h.ensures.length) c.in_err-fields.ensures.fields)
+    rw (p.1, p.2) (Fails_fields o fault (take (h.header_length - 8) (drop 8 o))
+    h.ensures.sound (metadata_is o h.header_length h.ensures.length) c.in_err-fields.ensures.fields)
 
 pub returns-clause-reading : goal.returns-clause-reading
 returns-clause-reading c =
@@ -26,7 +27,8 @@ returns-clause-reading c =
     let h = c.in_ok-header_length in
     let r = c.rounded.result in
     let body = body_is o r (c.rounded.ensures ∙ ap rounded h.ensures.length) in
-    reading_ok o (take (h.header_length - 8) (drop 8 o)) (take (length o - r) (drop r o)) c.in_ok-fields.fields h.ensures.sound (metadata_is o h.header_length h.ensures.length) body c.in_ok-fields.ensures.fields
+    reading_ok o (take (h.header_length - 8) (drop 8 o)) (take (length o - r) (drop r o)) c.in_ok-fields.fields
+    h.ensures.sound (metadata_is o h.header_length h.ensures.length) body c.in_ok-fields.ensures.fields
 
 pub returns-in_err-header_length-clause-memory : goal.returns-in_err-header_length-clause-memory
 returns-in_err-header_length-clause-memory c =
@@ -38,4 +40,5 @@ returns-in_err-fields-clause-memory c =
     let p = err_from_is_err_and c.from_residual-in_err-fields.result c.from_residual-in_err-fields.ensures.1 in
     let o = c.args.bytes.now in
     let h = c.in_ok-header_length in
-    rw (p.1, p.2) (λ same. reading_is_ok o (take (h.header_length - 8) (drop 8 o)) h.ensures.sound (metadata_is o h.header_length h.ensures.length) (c.in_err-fields.ensures.memory same))
+    rw (p.1, p.2) (λ same. reading_is_ok o (take (h.header_length - 8) (drop 8 o))
+    h.ensures.sound (metadata_is o h.header_length h.ensures.length) (c.in_err-fields.ensures.memory same))

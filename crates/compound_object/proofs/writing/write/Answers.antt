@@ -12,5 +12,6 @@ returns-clause-read_again c =
     let body = c.args.body.now in
     let spells = SpellsObject-said descriptor fields body c.in_ok-object.ensures.fields c.requires in
     let sum = c.to_be_bytes-sum.result in
-    let bytes : slice_set (slice_set c.in_ok-object.object.items 2 (slice_index_or sum 0 0)) 3 (slice_index_or sum 1 0) ≡ object_bytes descriptor fields body = search rules in
+    let bytes : slice_set (slice_set c.in_ok-object.object.items 2 (slice_index_or sum 0 0))
+    3 (slice_index_or sum 1 0) ≡ object_bytes descriptor fields body = search rules in
     ap reading bytes ∙ reading-spelled (object_bytes descriptor fields body) descriptor fields body spells

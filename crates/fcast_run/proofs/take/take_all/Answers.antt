@@ -10,7 +10,8 @@ loop-taken-preserved g c =
     let i = c.loop-taken._taken in
     let left = D.left c.args.datagrams.now in
     let one = c.in_ok-take_one-in-Got.ensures in
-    let next = λ (told : D.told c.args.datagrams.now). next_of i left (take c.in-Got.size c.next.new.buffer) (D.left c.next.new.self) (sym (before.left told) ∙ (c.in-Got.ensures.answer (before.told told)).0) in
+    let next = λ (told : D.told c.args.datagrams.now). next_of i left (take c.in-Got.size c.next.new.buffer)
+    (D.left c.next.new.self) (sym (before.left told) ∙ (c.in-Got.ensures.answer (before.told told)).0) in
     record {
       tsi = one.tsi ∙ before.tsi;
       budget = one.budget ∙ before.budget;
@@ -33,5 +34,6 @@ returns-in-Got-next-clause-left g c =
     let left = D.left c.args.datagrams.now in
     let all : c.args.most ≡ c.loop-taken._taken = omega (arith, c.loop-taken-test.false, c.loop-taken.auto._taken-end) in
     λ told.
-    let next = next_of c.loop-taken._taken left (take c.in-Got-next.field-0 c.next-2.new.buffer) (D.left c.next-2.new.self) (sym (before.left told) ∙ (c.in-Got-next.ensures.answer (before.told told)).0) in
+    let next = next_of c.loop-taken._taken left (take c.in-Got-next.field-0 c.next-2.new.buffer)
+    (D.left c.next-2.new.self) (sym (before.left told) ∙ (c.in-Got-next.ensures.answer (before.told told)).0) in
     sym (ap (λ n. drop (n + 1) left) all ∙ next.drop)

@@ -23,7 +23,8 @@ returns-clause-over g c =
     let ends = ends_of c.replay-done.result c.status_of-2.result c.status_of-2.ensures done.base in
     for_settings _ _ c.in-Some.settings (sym c.in-Some.is ∙ c.in-Ok.ensures.replay) (λ told seven.
     over_of c.in-Some.settings _ _ c.status_of-2.result
-    (if_done c.replay-done.result c.status_of-2.result (λ v. v ≡ _) ends (done_at_end c.status_of-2.result (at_end_of c.status_of-2.result (inr (inr seven)))) (done.status told)) seven)
+    (if_done c.replay-done.result c.status_of-2.result (λ v. v ≡ _)
+    ends (done_at_end c.status_of-2.result (at_end_of c.status_of-2.result (inr (inr seven)))) (done.status told)) seven)
 
 pub returns-clause-none_over : goal.returns-clause-none_over
 returns-clause-none_over g c =
@@ -31,12 +32,14 @@ returns-clause-none_over g c =
     let ends = ends_of c.replay-done.result c.status_of-2.result c.status_of-2.ensures done.base in
     for_settings _ _ c.in-Some.settings (sym c.in-Some.is ∙ c.in-Ok.ensures.replay) (λ told few.
     none_over_of c.in-Some.settings _ _ c.status_of-2.result
-    (if_done c.replay-done.result c.status_of-2.result (λ v. v ≡ _) ends (done_at_end c.status_of-2.result (at_end_of_few c.status_of-2.result few)) (done.status told)) few)
+    (if_done c.replay-done.result c.status_of-2.result (λ v. v ≡ _)
+    ends (done_at_end c.status_of-2.result (at_end_of_few c.status_of-2.result few)) (done.status told)) few)
 
 pub returns-clause-text_at_5 : goal.returns-clause-text_at_5
 returns-clause-text_at_5 g c = λ settings words told written five.
     let ends = ends_of c.replay-done.result c.status_of-2.result c.status_of-2.ensures c.replay-done.ensures.base in
-    nothing_written _ _ _ (if_stopped c.replay-done.result c.status_of-2.result _ ends (λ (is : IsDone c.status_of-2.result). is.text five) (c.replay-done.ensures.unwritten written))
+    nothing_written _ _ _ (if_stopped c.replay-done.result c.status_of-2.result _
+    ends (λ (is : IsDone c.status_of-2.result). is.text five) (c.replay-done.ensures.unwritten written))
 
 pub returns-clause-complete : goal.returns-clause-complete
 returns-clause-complete g c =

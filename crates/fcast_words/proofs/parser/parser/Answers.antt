@@ -5,4 +5,5 @@ use Rattle.fcast_words.proofs.parser.parser.Goals as goal
 
 pub loop-option-preserved : goal.loop-option-preserved
 loop-option-preserved c =
-    c.in_ok-parser.ensures ∙ option_added (app_of c.loop-option.parser) c.args.name.now c.args.options.now c.loop-option.option-index _ c.loop-option-test.true c.loop-option.invariant
+    c.in_ok-parser.ensures ∙ option_added (app_of c.loop-option.parser) c.args.name.now
+    c.args.options.now c.loop-option.option-index _ c.loop-option-test.true c.loop-option.invariant

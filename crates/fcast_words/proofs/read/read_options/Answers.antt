@@ -14,4 +14,5 @@ returns-then-words-options-clause-usage c usage =
 
 pub returns-then-not-has_shape-clause-usage : goal.returns-then-not-has_shape-clause-usage
 returns-then-not-has_shape-clause-usage c usage =
-    ap (option_and_then (command_with c.args.word)) (no_map (options_of c.args.word) c.args.words.now (options_named c.args.word) (sym c.has_shape.ensures ∙ c.if-not-has_shape.true))
+    ap (option_and_then (command_with c.args.word))
+    (no_map (options_of c.args.word) c.args.words.now (options_named c.args.word) (sym c.has_shape.ensures ∙ c.if-not-has_shape.true))

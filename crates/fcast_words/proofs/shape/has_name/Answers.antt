@@ -6,7 +6,8 @@ use Rattle.fcast_words.proofs.shape.has_name.Goals as goal
 pub returns-then-eq : goal.returns-then-eq
 returns-then-eq c =
     let same : bytes_eq c.index-words-place.result c.args.name.now ≡ true = rw (← c.as_str.ensures) (sym c.eq.ensures ∙ c.if-eq.true) in
-    sym (name_here c.args.name.now c.args.words.now c.loop-place.place c.index-words-place.result c.loop-place-test.true c.index-words-place.is same) ∙ c.loop-place.invariant.rest
+    sym (name_here c.args.name.now c.args.words.now c.loop-place.place c.index-words-place.result c.loop-place-test.true c.index-words-place.is same)
+    ∙ c.loop-place.invariant.rest
 
 pub loop-place-preserved : goal.loop-place-preserved
 loop-place-preserved c = record {

@@ -6,5 +6,7 @@ use Rattle.lct_header.proofs.reading.header_of.Goals as goal
 
 pub invariant_of-result : goal.invariant_of-result
 invariant_of-result c =
-    rw (c.tsi_number.ensures, c.toi_number.ensures) (fields_are_header c.args.word.now _ _ c.args.tsi.now c.args.toi.now _ (subst FitsWord c.word.view_is c.word.invariant) c.requires.tsi c.requires.toi
-    (bytes_by_place c.args.tsi.now (λ i. omega (arith, c.type_inv.tsi i))) (bytes_by_place c.args.toi.now (λ i. omega (arith, c.type_inv.toi i))) c.word.invariant.codepoint)
+    rw (c.tsi_number.ensures, c.toi_number.ensures)
+    (fields_are_header c.args.word.now _ _ c.args.tsi.now c.args.toi.now _ (subst FitsWord c.word.view_is c.word.invariant) c.requires.tsi c.requires.toi
+    (bytes_by_place c.args.tsi.now (λ i. omega (arith, c.type_inv.tsi i)))
+    (bytes_by_place c.args.toi.now (λ i. omega (arith, c.type_inv.toi i))) c.word.invariant.codepoint)

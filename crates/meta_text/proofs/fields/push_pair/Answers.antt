@@ -14,17 +14,21 @@ returns-in_err-place-clause-err c =
 
 pub returns-in_err-push-clause-places : goal.returns-in_err-push-clause-places
 returns-in_err-push-clause-places c =
-    rw (c.in_err-push.ensures.items, c.in_ok-place.ensures.text) (places_grow c.args.text.now.items (c.args.name.now ++ c.args.value.now) c.args.places.now.items c.requires.places)
+    rw (c.in_err-push.ensures.items, c.in_ok-place.ensures.text)
+    (places_grow c.args.text.now.items (c.args.name.now ++ c.args.value.now) c.args.places.now.items c.requires.places)
 
 pub returns-in_err-push-clause-err : goal.returns-in_err-push-clause-err
 returns-in_err-push-clause-err c =
     let p = err_from_is_err_and c.from_residual-in_err-push.result c.from_residual-in_err-push.ensures.1 in
-    rw (p.1, c.in_err-push.ensures.items, c.in_ok-place.ensures.text) (pairs_grow c.args.text.now.items (c.args.name.now ++ c.args.value.now) c.args.places.now.items c.requires.places)
+    rw (p.1, c.in_err-push.ensures.items, c.in_ok-place.ensures.text)
+    (pairs_grow c.args.text.now.items (c.args.name.now ++ c.args.value.now) c.args.places.now.items c.requires.places)
 
 pub returns-clause-places : goal.returns-clause-places
 returns-clause-places c =
-    rw (c.in_ok-push.ensures.items, c.in_ok-place.ensures.text, c.in_ok-place.ensures.place) (places_more c.args.text.now.items c.args.name.now c.args.value.now c.args.places.now.items c.requires.places c.requires.name c.requires.value)
+    rw (c.in_ok-push.ensures.items, c.in_ok-place.ensures.text, c.in_ok-place.ensures.place)
+    (places_more c.args.text.now.items c.args.name.now c.args.value.now c.args.places.now.items c.requires.places c.requires.name c.requires.value)
 
 pub returns-clause-ok : goal.returns-clause-ok
 returns-clause-ok c =
-    rw (c.in_ok-push.ensures.items, c.in_ok-place.ensures.text, c.in_ok-place.ensures.place) (pairs_more c.args.text.now.items c.args.name.now c.args.value.now c.args.places.now.items c.requires.places)
+    rw (c.in_ok-push.ensures.items, c.in_ok-place.ensures.text, c.in_ok-place.ensures.place)
+    (pairs_more c.args.text.now.items c.args.name.now c.args.value.now c.args.places.now.items c.requires.places)

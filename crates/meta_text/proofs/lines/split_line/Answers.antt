@@ -9,4 +9,8 @@ returns-in-Some-clause-lines c = rw (take_rest, c.without_return.ensures) (lines
 pub returns-in-None-clause-lines : goal.returns-in-None-clause-lines
 returns-in-None-clause-lines c =
     let bytes = c.args.bytes.now in
-    rw (take_rest bytes (length bytes), drop_all (length bytes) bytes (omega arith), c.without_return-in-None.ensures) (lines_none bytes c.requires (sym c.in-None.ensures))
+    rw (
+      take_rest bytes (length bytes),
+      drop_all (length bytes) bytes (omega arith),
+      c.without_return-in-None.ensures,
+    ) (lines_none bytes c.requires (sym c.in-None.ensures))

@@ -11,4 +11,5 @@ pub returns-in_err-add_line : goal.returns-in_err-add_line
 returns-in_err-add_line c =
     let p = err_from_is_err_and c.from_residual-in_err-add_line.result c.from_residual-in_err-add_line.ensures.1 in
     let l = c.loop-rest in
-    rw (p.1, p.2) (ends c.in_err-add_line.field-0.0 l.fields (l.number + 1) l.rest.now c.split_line.result.0.now c.split_line.result.1.now (reading c.args.bytes.now) c.split_line.ensures.lines c.in_err-add_line.ensures.fault l.invariant.whole)
+    rw (p.1, p.2) (ends c.in_err-add_line.field-0.0 l.fields (l.number + 1) l.rest.now c.split_line.result.0.now
+    c.split_line.result.1.now (reading c.args.bytes.now) c.split_line.ensures.lines c.in_err-add_line.ensures.fault l.invariant.whole)

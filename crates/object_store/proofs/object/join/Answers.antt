@@ -23,7 +23,8 @@ append_within-requires c =
     let n = c.loop-sbn.sbn-counter in
     let less : n < blocks o.oti = omega (arith, c.loop-sbn-test.true, c.loop-sbn.invariant.end) in
     let here : block_at o n ≡ c.in-Some.block.now = block_in_tree o.oti c.args.parts.now n ∙ ap (λ r. unwrap_or r (unopened o.oti n)) (sym c.in-Some.ensures.value) in
-    let room = room_for_next o n c.in-Some.block.now c.loop-sbn.bytes.items c.source.result.now c.blocks-sbn-end.ensures.sound less c.loop-sbn.invariant.rows (subst (IsShaped o.oti n) here (c.requires.shaped n)) c.source.ensures in
+    let room = room_for_next o n c.in-Some.block.now c.loop-sbn.bytes.items c.source.result.now c.blocks-sbn-end.ensures.sound
+    less c.loop-sbn.invariant.rows (subst (IsShaped o.oti n) here (c.requires.shaped n)) c.source.ensures in
     omega (arith, room, c.loop-sbn.invariant.room)
 
 pub loop-sbn-preserved : goal.loop-sbn-preserved
@@ -33,11 +34,13 @@ loop-sbn-preserved c =
     let less : n < blocks o.oti = omega (arith, c.loop-sbn-test.true, c.loop-sbn.invariant.end) in
     elim c.match-get.branch [
       | in-Some w ↦
-          let here : block_at o n ≡ w.in-Some.block.now = block_in_tree o.oti c.args.parts.now n ∙ ap (λ r. unwrap_or r (unopened o.oti n)) (sym w.in-Some.ensures.value) in
+          let here : block_at o n ≡ w.in-Some.block.now = block_in_tree o.oti c.args.parts.now n
+          ∙ ap (λ r. unwrap_or r (unopened o.oti n)) (sym w.in-Some.ensures.value) in
           let capacity = ap vec_capacity w.bytes-is in record {
             end = c.loop-sbn.invariant.end;
             rows = subst (λ (xs : List ℕ). AreRowsBelow o (n + 1) xs) (sym (ap (λ (v : Vec ℕ Global). v.items) w.bytes-is ∙ w.append_within.ensures.items))
-                (rows_next o n w.in-Some.block.now c.loop-sbn.bytes.items w.source.result.now c.blocks-sbn-end.ensures.sound less c.loop-sbn.invariant.rows here (subst (IsShaped o.oti n) here (c.requires.shaped n)) w.source.ensures);
+                (rows_next o n w.in-Some.block.now c.loop-sbn.bytes.items w.source.result.now c.blocks-sbn-end.ensures.sound
+                less c.loop-sbn.invariant.rows here (subst (IsShaped o.oti n) here (c.requires.shaped n)) w.source.ensures);
             room = omega (arith, c.loop-sbn.invariant.room, w.append_within.ensures.room, capacity);
           }
       | in-None w ↦

@@ -12,5 +12,6 @@ after_err (Ok x) holds follows = holds
 after_err (Err e) holds follows = follows holds
 
 pub returns-clause-err : goal.returns-clause-err
-returns-clause-err g c = after_err c.add.result c.add.ensures.err (λ same. (c.get_mut.follows.holds c.add.new.self).0 ∙ set_value_same (is_at (nat_cmp c.packet.inside.toi)) c.args.objects.now.entries c.add.new.self
+returns-clause-err g c = after_err c.add.result c.add.ensures.err (λ same. (c.get_mut.follows.holds c.add.new.self).0
+    ∙ set_value_same (is_at (nat_cmp c.packet.inside.toi)) c.args.objects.now.entries c.add.new.self
     (sym c.in-Some.ensures.value ∙ ap (λ h. Some h) (sym same)))

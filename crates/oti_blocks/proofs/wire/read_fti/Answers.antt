@@ -7,4 +7,5 @@ use Rattle.oti_blocks.proofs.wire.read_fti.Goals as goal
 
 pub returns-clause-found : goal.returns-clause-found
 returns-clause-found c =
-    rw c.read_values.ensures (spelled c.args.content.now c.if-content-ne10.false (bytes_by_place c.args.content.now (λ i. omega (arith, c.type_inv.content i))) (information_fault (stated c.args.content.now)))
+    rw c.read_values.ensures (spelled c.args.content.now c.if-content-ne10.false (bytes_by_place c.args.content.now (λ i. omega (arith, c.type_inv.content i)))
+    (information_fault (stated c.args.content.now)))

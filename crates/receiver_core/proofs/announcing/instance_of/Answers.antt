@@ -24,4 +24,5 @@ returns c =
     let is = made (whole c.args.store.now.held) c.args.candidate.now.toi c.args.candidate.now.number c.args.candidate.now.listed c.in-Some.files.items c.requires are in
     let same : c.args.candidate.now.listed ≡ c.in_ok-listed.listed = search rules in
     let files : c.in-Some.files.items ≡ c.new.result = search rules in
-    ap (λ i. Some i) (c.new-2.ensures ∙ (λ k. record { number = c.args.candidate.now.number; descriptor_toi = c.args.candidate.now.toi; listed = sym same k; files = sym files k })) ∙ is
+    ap (λ i. Some i) (c.new-2.ensures
+    ∙ (λ k. record { number = c.args.candidate.now.number; descriptor_toi = c.args.candidate.now.toi; listed = sym same k; files = sym files k })) ∙ is

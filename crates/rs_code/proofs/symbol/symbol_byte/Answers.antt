@@ -26,5 +26,6 @@ returns c =
     let s : List ℕ = column (rows_of c.args.block.now) c.args.at in
     let w : List ℕ = c.weights.new.out.items in
     let all : c.loop-i.i ≡ c.k-i-end.result = omega arith in
-    weighed_is_symbol c.args.block.now c.args.at c.args.esi c.k-i-end.result c.loop-i.sum.0 w c.k-i-end.ensures.rows c.weights.ensures.weights c.k-i-end.ensures.count (omega arith)
+    weighed_is_symbol c.args.block.now c.args.at c.args.esi c.k-i-end.result c.loop-i.sum.0
+    w c.k-i-end.ensures.rows c.weights.ensures.weights c.k-i-end.ensures.count (omega arith)
     c.requires.place (c.loop-i.invariant ∙ ap (weighed_bytes w s) all)

@@ -41,6 +41,7 @@ returns c = record {
       let s : List ℕ = column (rows_of c.args.block.now) at in
       let w : List ℕ = c.weights.new.out.items in
       let all : c.loop-i.i ≡ c.k-i-end.result = omega arith in
-      weighed_is_symbol c.args.block.now at c.args.esi c.k-i-end.result (get_or c.loop-i.out at 0) w c.k-i-end.ensures.rows c.weights.ensures.weights c.k-i-end.ensures.count (omega arith) less
+      weighed_is_symbol c.args.block.now at c.args.esi c.k-i-end.result (get_or c.loop-i.out at 0)
+      w c.k-i-end.ensures.rows c.weights.ensures.weights c.k-i-end.ensures.count (omega arith) less
       (c.loop-i.invariant.sums at less ∙ ap (weighed_bytes w s) all);
 }

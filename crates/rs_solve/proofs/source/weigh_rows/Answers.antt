@@ -31,7 +31,8 @@ loop-i-preserved g c =
       sums = λ at less.
           let src : at < length c.row_of.result.now = omega arith in
           let dst : at < length c.loop-i.out = omega arith in
-          weighed_more c.args.weights.now (column (cut k size c.args.rows.now) at) i (get_or c.loop-i.out at 0) by (get_or c.row_of.result.now at 0) (get_or c.row.new.dst at 0)
+          weighed_more c.args.weights.now (column (cut k size c.args.rows.now) at)
+          i (get_or c.loop-i.out at 0) by (get_or c.row_of.result.now at 0) (get_or c.row.new.dst at 0)
           refl (ap (λ xs. get_or xs at 0) c.row_of.ensures ∙ byte_of_row k size i at c.args.rows.now c.loop-i-test.true less) (c.loop-i.invariant.sums at less)
           (ap (λ xs. get_or xs at 0) c.row.ensures.row ∙ get_or-added_row by at c.row_of.result.now c.loop-i.out src dst);
       count = omega arith;

@@ -11,7 +11,8 @@ pub invariant_of-self : goal.invariant_of-self
 invariant_of-self c = (some_left c.self.inside.rest.now c.in_ok-first.first c.in_ok-first.others.now c.self.invariant (sym c.in_ok-first.ensures)).1
 
 pub returns-clause-steps : goal.returns-clause-steps
-returns-clause-steps c = sym c.self.view_is ∙ (some_left c.self.inside.rest.now c.in_ok-first.first c.in_ok-first.others.now c.self.invariant (sym c.in_ok-first.ensures)).0
+returns-clause-steps c = sym c.self.view_is
+    ∙ (some_left c.self.inside.rest.now c.in_ok-first.first c.in_ok-first.others.now c.self.invariant (sym c.in_ok-first.ensures)).0
 
 pub returns-clause-goes : goal.returns-clause-goes
 returns-clause-goes c =

@@ -13,21 +13,24 @@ use Rattle.object_store.proofs.block.Block.add.Goals as goal
 pub source_when_full-requires-clause-places : goal.source_when_full-requires-clause-places
 source_when_full-requires-clause-places g c =
     let v = c.self.inside in
-    let is = added c.args.self.now v.k v.n v.size c.args.esi c.from-size.result c.args.symbol.now v.places.items v.rows.items v.source.items c.append.new.places.items c.append.new.rows.items c.self.view_is c.self.invariant
+    let is = added c.args.self.now v.k v.n v.size c.args.esi c.from-size.result c.args.symbol.now v.places.items
+    v.rows.items v.source.items c.append.new.places.items c.append.new.rows.items c.self.view_is c.self.invariant
     c.requires.place c.requires.vacant c.requires.wanting c.requires.symbol c.from-size.ensures c.in_ok-append.ensures.places c.in_ok-append.ensures.rows in
     subst ArePlaces (sym c.as_slice.ensures.value) (are_places v.k v.n v.size _ _ is.holds)
 
 pub source_when_full-requires-clause-rows : goal.source_when_full-requires-clause-rows
 source_when_full-requires-clause-rows g c =
     let v = c.self.inside in
-    let is = added c.args.self.now v.k v.n v.size c.args.esi c.from-size.result c.args.symbol.now v.places.items v.rows.items v.source.items c.append.new.places.items c.append.new.rows.items c.self.view_is c.self.invariant
+    let is = added c.args.self.now v.k v.n v.size c.args.esi c.from-size.result c.args.symbol.now v.places.items
+    v.rows.items v.source.items c.append.new.places.items c.append.new.rows.items c.self.view_is c.self.invariant
     c.requires.place c.requires.vacant c.requires.wanting c.requires.symbol c.from-size.ensures c.in_ok-append.ensures.places c.in_ok-append.ensures.rows in
     rw (c.as_slice-2.ensures.value, c.as_slice.ensures.value, c.from-size.ensures) is.holds.whole
 
 pub invariant_of-self-in-Ok : goal.invariant_of-self-in-Ok
 invariant_of-self-in-Ok g c =
     let v = c.self.inside in
-    let is = added c.args.self.now v.k v.n v.size c.args.esi c.from-size.result c.args.symbol.now v.places.items v.rows.items v.source.items c.append.new.places.items c.append.new.rows.items c.self.view_is c.self.invariant
+    let is = added c.args.self.now v.k v.n v.size c.args.esi c.from-size.result c.args.symbol.now v.places.items
+    v.rows.items v.source.items c.append.new.places.items c.append.new.rows.items c.self.view_is c.self.invariant
     c.requires.place c.requires.vacant c.requires.wanting c.requires.symbol c.from-size.ensures c.in_ok-append.ensures.places c.in_ok-append.ensures.rows in
     block_with v.k v.n v.size c.append.new.places.items c.append.new.rows.items c.in-Ok.source.items is.holds
     (λ all. subst (λ (n : ℕ). IsSolution n c.append.new.places.items c.append.new.rows.items c.in-Ok.source.items) c.from-size.ensures
@@ -39,13 +42,15 @@ pub take_back-requires-clause-row : goal.take_back-requires-clause-row
 take_back-requires-clause-row g c =
     let rows = c.append.new.rows in
     let many = rows.ok.0 in
-    let long = length_filled c.from-size.result c.args.symbol.now (omega (arith, c.from-size.ensures, c.requires.symbol, ap (λ (h : BlockHeld). h.size) c.self.view_is)) in
+    let long = length_filled c.from-size.result
+    c.args.symbol.now (omega (arith, c.from-size.ensures, c.requires.symbol, ap (λ (h : BlockHeld). h.size) c.self.view_is)) in
     omega (arith, many, ap length c.in_ok-append.ensures.rows, length-append c.self.inside.rows.items (zero_filled c.from-size.result c.args.symbol.now), long)
 
 pub invariant_of-self-in-Err : goal.invariant_of-self-in-Err
 invariant_of-self-in-Err g c =
     let v = c.self.inside in
-    let back = taken_back v.size c.args.esi c.from-size.result c.args.symbol.now v.places.items v.rows.items c.append.new.places.items c.append.new.rows.items c.from-size.ensures
+    let back = taken_back v.size c.args.esi c.from-size.result c.args.symbol.now v.places.items
+    v.rows.items c.append.new.places.items c.append.new.rows.items c.from-size.ensures
     (subst (λ (h : BlockHeld). length c.args.symbol.now ≤ h.size) (sym c.self.view_is) c.requires.symbol) c.in_ok-append.ensures.places c.in_ok-append.ensures.rows in
     subst (λ (xs : List ℕ). IsBlock v.k v.n v.size xs c.take_back.new.rows.items v.source.items) (sym (c.take_back.ensures.places ∙ back.0))
     (subst (λ (xs : List ℕ). IsBlock v.k v.n v.size v.places.items xs v.source.items) (sym (c.take_back.ensures.rows ∙ back.1)) c.self.invariant)
@@ -53,20 +58,23 @@ invariant_of-self-in-Err g c =
 pub returns-in-Ok-clause-ok : goal.returns-in-Ok-clause-ok
 returns-in-Ok-clause-ok g c =
     let v = c.self.inside in
-    (added c.args.self.now v.k v.n v.size c.args.esi c.from-size.result c.args.symbol.now v.places.items v.rows.items v.source.items c.append.new.places.items c.append.new.rows.items c.self.view_is c.self.invariant
+    (added c.args.self.now v.k v.n v.size c.args.esi c.from-size.result c.args.symbol.now v.places.items
+    v.rows.items v.source.items c.append.new.places.items c.append.new.rows.items c.self.view_is c.self.invariant
     c.requires.place c.requires.vacant c.requires.wanting c.requires.symbol c.from-size.ensures c.in_ok-append.ensures.places c.in_ok-append.ensures.rows).view
 
 pub returns-in-Ok-clause-count : goal.returns-in-Ok-clause-count
 returns-in-Ok-clause-count g c =
     let v = c.self.inside in
-    let is = added c.args.self.now v.k v.n v.size c.args.esi c.from-size.result c.args.symbol.now v.places.items v.rows.items v.source.items c.append.new.places.items c.append.new.rows.items c.self.view_is c.self.invariant
+    let is = added c.args.self.now v.k v.n v.size c.args.esi c.from-size.result c.args.symbol.now v.places.items
+    v.rows.items v.source.items c.append.new.places.items c.append.new.rows.items c.self.view_is c.self.invariant
     c.requires.place c.requires.vacant c.requires.wanting c.requires.symbol c.from-size.ensures c.in_ok-append.ensures.places c.in_ok-append.ensures.rows in
     c.in-Ok.ensures.count ∙ rw (c.as_slice.ensures.value, is.steps) refl
 
 pub returns-in-Err-clause-err : goal.returns-in-Err-clause-err
 returns-in-Err-clause-err g c =
     let v = c.self.inside in
-    let back = taken_back v.size c.args.esi c.from-size.result c.args.symbol.now v.places.items v.rows.items c.append.new.places.items c.append.new.rows.items c.from-size.ensures
+    let back = taken_back v.size c.args.esi c.from-size.result c.args.symbol.now v.places.items
+    v.rows.items c.append.new.places.items c.append.new.rows.items c.from-size.ensures
     (subst (λ (h : BlockHeld). length c.args.symbol.now ≤ h.size) (sym c.self.view_is) c.requires.symbol) c.in_ok-append.ensures.places c.in_ok-append.ensures.rows in
     ap (λ (xs : List ℕ). seen_as v.k v.n v.size xs c.take_back.new.rows.items) (c.take_back.ensures.places ∙ back.0)
     ∙ ap (λ (xs : List ℕ). seen_as v.k v.n v.size v.places.items xs) (c.take_back.ensures.rows ∙ back.1) ∙ c.self.view_is

@@ -4,4 +4,5 @@ use Rattle.object_store.proofs.Blocks.{rows_of_none}
 use Rattle.object_store.proofs.block.Block.new.Goals as goal
 
 pub returns : goal.returns
-returns c = ap (λ m. record { k = c.args.k; n = c.args.n; size = c.args.size; rows = m }) (rows_of_none c.args.size c.new.result.items c.new-2.result.items c.new.ensures.items)
+returns c = ap (λ m. record { k = c.args.k; n = c.args.n; size = c.args.size; rows = m })
+    (rows_of_none c.args.size c.new.result.items c.new-2.result.items c.new.ensures.items)

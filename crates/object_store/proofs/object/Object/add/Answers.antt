@@ -21,14 +21,16 @@ add_to_part-requires g c =
 pub invariant_of-self-in_err-block : goal.invariant_of-self-in_err-block
 invariant_of-self-in_err-block g c =
     let v = c.self.inside in
-    subst (λ (m : FinMap nat_cmp BlockHeld). IsObject (record { oti = v.oti; parts = m }) v.waiting c.reserve_rows.new.bytes.items) (sym (map_same v.parts c.add_to_part.new.parts c.in_err-block.ensures.err))
+    subst (λ (m : FinMap nat_cmp BlockHeld). IsObject (record { oti = v.oti; parts = m }) v.waiting c.reserve_rows.new.bytes.items)
+    (sym (map_same v.parts c.add_to_part.new.parts c.in_err-block.ensures.err))
     (subst (λ (xs : List ℕ). IsObject (object_of v.oti v.parts) v.waiting xs) (sym c.reserve_rows.ensures.same) c.self.invariant)
 
 pub returns-in_err-block-clause-err : goal.returns-in_err-block-clause-err
 returns-in_err-block-clause-err g c =
     let v = c.self.inside in
     let p = err_from_is_err_and c.from_residual-in_err-block.result c.from_residual-in_err-block.ensures.1 in
-    rw p.1 (ap (λ (m : FinMap nat_cmp BlockHeld). record { oti = v.oti; parts = m }) (map_same v.parts c.add_to_part.new.parts c.in_err-block.ensures.err) ∙ c.self.view_is)
+    rw p.1 (ap (λ (m : FinMap nat_cmp BlockHeld). record { oti = v.oti; parts = m })
+    (map_same v.parts c.add_to_part.new.parts c.in_err-block.ensures.err) ∙ c.self.view_is)
 
 pub fewer-self-inside-requires : goal.fewer-self-inside-requires
 fewer-self-inside-requires g c block =
@@ -80,8 +82,10 @@ invariant_of-self-2 g c =
     let joins : Joins o p = subst (λ (u : ObjectHeld). Joins u p) (sym c.self.view_is) c.requires in
     let step = step_of v.oti v.parts c.add_to_part.new.parts p joins c.self.invariant.shaped c.in_ok-block.ensures.ok in
     subst (λ (u : ObjectHeld). IsObject u c.fewer-self-inside.result c.join_when.new.bytes.items) (sym step.new)
-    (holds_with o p v.waiting c.fewer-self-inside.result v.bytes.items c.join_when.new.bytes.items c.in_ok-block.block c.completes-object.result c.self.invariant c.completes-object.ensures.sound joins
-    (c.in_ok-block.ensures.full ∙ step.full) c.fewer-self-inside.ensures (c.completes-object.ensures.ready ∙ ap (λ (u : ObjectHeld). is_done (with_packet u p)) (sym c.self.view_is))
+    (holds_with o p v.waiting c.fewer-self-inside.result v.bytes.items c.join_when.new.bytes.items
+    c.in_ok-block.block c.completes-object.result c.self.invariant c.completes-object.ensures.sound joins
+    (c.in_ok-block.ensures.full ∙ step.full) c.fewer-self-inside.ensures (c.completes-object.ensures.ready
+    ∙ ap (λ (u : ObjectHeld). is_done (with_packet u p)) (sym c.self.view_is))
     (λ f. c.join_when.ensures.same f ∙ c.reserve_rows.ensures.same)
     (λ t. subst (λ (u : ObjectHeld). AreRowsBelow u (blocks v.oti) c.join_when.new.bytes.items) step.new (c.join_when.ensures.joined t)))
 
@@ -110,4 +114,5 @@ returns-clause-count g c =
     let p = c.args.packet.now in
     let joins : Joins o p = subst (λ (u : ObjectHeld). Joins u p) (sym c.self.view_is) c.requires in
     let step = step_of v.oti v.parts c.add_to_part.new.parts p joins c.self.invariant.shaped c.in_ok-block.ensures.ok in
-    c.in_ok-block.ensures.count ∙ ap (λ (m : ℕ). min (c.args.steps.now.count + m) 18446744073709551615) (step.steps ∙ ap (λ (u : ObjectHeld). steps_at (with_packet u p) p.sbn) c.self.view_is)
+    c.in_ok-block.ensures.count ∙ ap (λ (m : ℕ). min (c.args.steps.now.count + m) 18446744073709551615)
+    (step.steps ∙ ap (λ (u : ObjectHeld). steps_at (with_packet u p) p.sbn) c.self.view_is)

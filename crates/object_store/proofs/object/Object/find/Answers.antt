@@ -15,7 +15,13 @@ find-requires c =
     let o = object_of v.oti v.parts in
     let same : o.oti ≡ p.oti = ap (λ (u : ObjectHeld). u.oti) c.self.view_is ∙ c.requires ∙ sym (ap (λ (q : SymbolPacket). q.oti) c.packet.view_is) in
     let here : block_at o p.sbn ≡ c.in-Some.block.now = block_in_tree v.oti v.parts p.sbn ∙ ap (λ r. unwrap_or r (unopened v.oti p.sbn)) (sym c.in-Some.ensures.value) in
-    omega (arith, symbol_within p c.packet.invariant, ap (λ (h : BlockHeld). h.size) here, (c.self.invariant.shaped p.sbn).size, ap (λ (u : ObjectInformation). u.symbol) same)
+    omega (
+      arith,
+      symbol_within p c.packet.invariant,
+      ap (λ (h : BlockHeld). h.size) here,
+      (c.self.invariant.shaped p.sbn).size,
+      ap (λ (u : ObjectInformation). u.symbol) same,
+    )
 
 pub returns-in-Some : goal.returns-in-Some
 returns-in-Some c =

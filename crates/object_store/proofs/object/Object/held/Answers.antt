@@ -9,12 +9,15 @@ pub returns-in-Some : goal.returns-in-Some
 returns-in-Some c =
     let v = c.self.inside in
     let o = object_of v.oti v.parts in
-    let here : block_at o c.args.sbn ≡ c.in-Some.block.now = block_in_tree v.oti v.parts c.args.sbn ∙ ap (λ r. unwrap_or r (unopened v.oti c.args.sbn)) (sym c.in-Some.ensures.value) in
-    c.len.ensures.held ∙ ap held_in (sym here) ∙ held_is_symbols o c.args.sbn (c.self.invariant.shaped c.args.sbn) ∙ ap (λ (u : ObjectHeld). symbols_in u c.args.sbn) c.self.view_is
+    let here : block_at o c.args.sbn ≡ c.in-Some.block.now = block_in_tree v.oti v.parts c.args.sbn
+    ∙ ap (λ r. unwrap_or r (unopened v.oti c.args.sbn)) (sym c.in-Some.ensures.value) in
+    c.len.ensures.held ∙ ap held_in (sym here) ∙ held_is_symbols o c.args.sbn (c.self.invariant.shaped c.args.sbn)
+    ∙ ap (λ (u : ObjectHeld). symbols_in u c.args.sbn) c.self.view_is
 
 pub returns-in-None : goal.returns-in-None
 returns-in-None c =
     let v = c.self.inside in
     let o = object_of v.oti v.parts in
-    let here : block_at o c.args.sbn ≡ unopened v.oti c.args.sbn = block_in_tree v.oti v.parts c.args.sbn ∙ ap (λ r. unwrap_or r (unopened v.oti c.args.sbn)) (sym c.in-None.ensures.value) in
+    let here : block_at o c.args.sbn ≡ unopened v.oti c.args.sbn = block_in_tree v.oti v.parts c.args.sbn
+    ∙ ap (λ r. unwrap_or r (unopened v.oti c.args.sbn)) (sym c.in-None.ensures.value) in
     sym (none_in o c.args.sbn here) ∙ ap (λ (u : ObjectHeld). symbols_in u c.args.sbn) c.self.view_is

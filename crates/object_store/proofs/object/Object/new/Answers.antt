@@ -10,8 +10,10 @@ use Rattle.object_store.proofs.object.Object.new.Goals as goal
 
 pub invariant_of-result : goal.invariant_of-result
 invariant_of-result c =
-    subst (λ (m : FinMap nat_cmp BlockHeld). IsObject (record { oti = c.args.oti; parts = m }) c.blocks-2.result c.new-2.result.items) (sym (map_none c.new.result (search rules)))
-    (new_object_holds c.args.oti c.blocks-2.result c.new-2.result.items c.blocks-2.ensures.sound (subst (λ (n : ℕ). 1 ≤ n) c.blocks-2.ensures.value c.blocks-2.ensures.some) c.blocks-2.ensures.value c.new-2.ensures.items)
+    subst (λ (m : FinMap nat_cmp BlockHeld). IsObject (record { oti = c.args.oti; parts = m }) c.blocks-2.result c.new-2.result.items)
+    (sym (map_none c.new.result (search rules)))
+    (new_object_holds c.args.oti c.blocks-2.result c.new-2.result.items
+    c.blocks-2.ensures.sound (subst (λ (n : ℕ). 1 ≤ n) c.blocks-2.ensures.value c.blocks-2.ensures.some) c.blocks-2.ensures.value c.new-2.ensures.items)
 
 pub returns : goal.returns
 returns c = ap (λ (m : FinMap nat_cmp BlockHeld). record { oti = c.args.oti; parts = m }) (map_none c.new.result (search rules))

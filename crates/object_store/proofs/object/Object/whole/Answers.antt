@@ -29,7 +29,13 @@ returns-then-self-eq0-clause-whole c =
     let o = object_of v.oti v.parts in
     let done : is_done o ≡ true = none_waits (blocks o.oti) v.waiting (is_block_done o) c.self.invariant.counted ∙ waits_none v.waiting c.if-self-eq0.true in
     subst (λ (u : ObjectHeld). IsWholeOf u (take c.length.result c.as_slice.result.now)) c.self.view_is
-    (record { done = done; rows = v.bytes.items; are = c.self.invariant.joined done; front = ap (λ (n : ℕ). take n c.as_slice.result.now) c.length.ensures.value ∙ ap (take v.oti.length) c.as_slice.ensures.value })
+    (record {
+      done = done;
+      rows = v.bytes.items;
+      are = c.self.invariant.joined done;
+      front =
+          ap (λ (n : ℕ). take n c.as_slice.result.now) c.length.ensures.value ∙ ap (take v.oti.length) c.as_slice.ensures.value;
+    })
 
 pub returns-else-self-eq0-clause-waits : goal.returns-else-self-eq0-clause-waits
 returns-else-self-eq0-clause-waits c =

@@ -19,7 +19,8 @@ add_to_object-requires g c =
 pub invariant_of-self-in_err-completed : goal.invariant_of-self-in_err-completed
 invariant_of-self-in_err-completed g c =
     let v = c.self.inside in
-    subst (λ (h : Held). IsStore v.budget v.count h c.reserve.new.self.items) (sym (ap held_of (map_same v.objects c.add_to_object.new.objects c.in_err-completed.ensures.err)))
+    subst (λ (h : Held). IsStore v.budget v.count h c.reserve.new.self.items)
+    (sym (ap held_of (map_same v.objects c.add_to_object.new.objects c.in_err-completed.ensures.err)))
     (subst (λ (xs : List ℕ). IsStore v.budget v.count (held_of (map_of v.objects)) xs) (sym c.in_ok-reserve.ensures.items) c.self.invariant)
 
 pub returns-in_err-completed-clause-err : goal.returns-in_err-completed-clause-err
@@ -32,8 +33,10 @@ returns-in_err-completed-clause-err g c =
 pub invariant_of-self-2 : goal.invariant_of-self-2
 invariant_of-self-2 g c =
     let v = c.self.inside in
-    let is = store_with v.budget v.count c.args.added v.objects c.add_to_object.new.objects c.args.packet.now v.ready.items c.in_ok-completed.completed.block c.in_ok-completed.completed.object c.self.invariant c.identifier-toi.ensures.sound
-    (ap (λ (s : specs.Store). is_new (verdict s.budget s.held c.args.packet.now)) c.self.view_is ∙ c.requires.new) (c.requires.added ∙ ap (λ (s : specs.Store). charge s.held c.args.packet.now) (sym c.self.view_is))
+    let is = store_with v.budget v.count c.args.added v.objects c.add_to_object.new.objects c.args.packet.now v.ready.items
+    c.in_ok-completed.completed.block c.in_ok-completed.completed.object c.self.invariant c.identifier-toi.ensures.sound
+    (ap (λ (s : specs.Store). is_new (verdict s.budget s.held c.args.packet.now)) c.self.view_is ∙ c.requires.new)
+    (c.requires.added ∙ ap (λ (s : specs.Store). charge s.held c.args.packet.now) (sym c.self.view_is))
     c.in_ok-completed.ensures.ok c.in_ok-completed.ensures.block c.in_ok-completed.ensures.object in
     subst (λ (xs : List ℕ). IsStore v.budget (v.count + c.args.added) (held_of (map_of c.add_to_object.new.objects)) xs) (sym (c.push_when.ensures
     ∙ ap (λ (xs : List ℕ). if c.in_ok-completed.completed.object then xs ++ c.identifier-toi.result ∷ [] else xs) c.in_ok-reserve.ensures.items
@@ -42,23 +45,30 @@ invariant_of-self-2 g c =
 pub returns-clause-answer : goal.returns-clause-answer
 returns-clause-answer g c =
     let v = c.self.inside in
-    let is = store_with v.budget v.count c.args.added v.objects c.add_to_object.new.objects c.args.packet.now v.ready.items c.in_ok-completed.completed.block c.in_ok-completed.completed.object c.self.invariant c.identifier-toi.ensures.sound
-    (ap (λ (s : specs.Store). is_new (verdict s.budget s.held c.args.packet.now)) c.self.view_is ∙ c.requires.new) (c.requires.added ∙ ap (λ (s : specs.Store). charge s.held c.args.packet.now) (sym c.self.view_is))
+    let is = store_with v.budget v.count c.args.added v.objects c.add_to_object.new.objects c.args.packet.now v.ready.items
+    c.in_ok-completed.completed.block c.in_ok-completed.completed.object c.self.invariant c.identifier-toi.ensures.sound
+    (ap (λ (s : specs.Store). is_new (verdict s.budget s.held c.args.packet.now)) c.self.view_is ∙ c.requires.new)
+    (c.requires.added ∙ ap (λ (s : specs.Store). charge s.held c.args.packet.now) (sym c.self.view_is))
     c.in_ok-completed.ensures.ok c.in_ok-completed.ensures.block c.in_ok-completed.ensures.object in
     is.verdict ∙ ap (λ (s : specs.Store). verdict s.budget s.held c.args.packet.now) c.self.view_is
 
 pub returns-clause-held : goal.returns-clause-held
 returns-clause-held g c =
     let v = c.self.inside in
-    let is = store_with v.budget v.count c.args.added v.objects c.add_to_object.new.objects c.args.packet.now v.ready.items c.in_ok-completed.completed.block c.in_ok-completed.completed.object c.self.invariant c.identifier-toi.ensures.sound
-    (ap (λ (s : specs.Store). is_new (verdict s.budget s.held c.args.packet.now)) c.self.view_is ∙ c.requires.new) (c.requires.added ∙ ap (λ (s : specs.Store). charge s.held c.args.packet.now) (sym c.self.view_is))
+    let is = store_with v.budget v.count c.args.added v.objects c.add_to_object.new.objects c.args.packet.now v.ready.items
+    c.in_ok-completed.completed.block c.in_ok-completed.completed.object c.self.invariant c.identifier-toi.ensures.sound
+    (ap (λ (s : specs.Store). is_new (verdict s.budget s.held c.args.packet.now)) c.self.view_is ∙ c.requires.new)
+    (c.requires.added ∙ ap (λ (s : specs.Store). charge s.held c.args.packet.now) (sym c.self.view_is))
     c.in_ok-completed.ensures.ok c.in_ok-completed.ensures.block c.in_ok-completed.ensures.object in
     is.held ∙ ap (λ (s : specs.Store). joined s.held c.args.packet.now) c.self.view_is
 
 pub returns-clause-count : goal.returns-clause-count
 returns-clause-count g c =
     let v = c.self.inside in
-    let is = store_with v.budget v.count c.args.added v.objects c.add_to_object.new.objects c.args.packet.now v.ready.items c.in_ok-completed.completed.block c.in_ok-completed.completed.object c.self.invariant c.identifier-toi.ensures.sound
-    (ap (λ (s : specs.Store). is_new (verdict s.budget s.held c.args.packet.now)) c.self.view_is ∙ c.requires.new) (c.requires.added ∙ ap (λ (s : specs.Store). charge s.held c.args.packet.now) (sym c.self.view_is))
+    let is = store_with v.budget v.count c.args.added v.objects c.add_to_object.new.objects c.args.packet.now v.ready.items
+    c.in_ok-completed.completed.block c.in_ok-completed.completed.object c.self.invariant c.identifier-toi.ensures.sound
+    (ap (λ (s : specs.Store). is_new (verdict s.budget s.held c.args.packet.now)) c.self.view_is ∙ c.requires.new)
+    (c.requires.added ∙ ap (λ (s : specs.Store). charge s.held c.args.packet.now) (sym c.self.view_is))
     c.in_ok-completed.ensures.ok c.in_ok-completed.ensures.block c.in_ok-completed.ensures.object in
-    c.in_ok-completed.ensures.count ∙ ap (λ (n : ℕ). min (c.args.steps.now.count + n) 18446744073709551615) (is.steps ∙ ap (λ (s : specs.Store). row_steps s.budget s.held c.args.packet.now) c.self.view_is)
+    c.in_ok-completed.ensures.count ∙ ap (λ (n : ℕ). min (c.args.steps.now.count + n) 18446744073709551615)
+    (is.steps ∙ ap (λ (s : specs.Store). row_steps s.budget s.held c.args.packet.now) c.self.view_is)

@@ -21,7 +21,8 @@ returns-in-Some c =
     let p = c.args.packet.now in
     let toi_is = ap (λ (q : SymbolPacket). q.toi) c.packet.view_is in
     subst (λ (s : specs.Store). IsJudged (verdict s.budget s.held p) (charge s.held p) c.judge_found.result) c.self.view_is
-    (subst (λ (j : Judgement). IsJudged (verdict v.budget (held_of m) p) (charge (held_of m) p) j) (sym (c.judge_found.ensures ∙ ap (λ (n : ℕ). judged_in v.budget n c.in-Some.object.now p) c.self.invariant.counted))
+    (subst (λ (j : Judgement). IsJudged (verdict v.budget (held_of m) p) (charge (held_of m) p) j)
+    (sym (c.judge_found.ensures ∙ ap (λ (n : ℕ). judged_in v.budget n c.in-Some.object.now p) c.self.invariant.counted))
     (judged_held v.budget m p c.in-Some.object.now (get_of v.objects p.toi ∙ ap (tree.get nat_cmp v.objects) (sym toi_is) ∙ sym c.in-Some.ensures.value)))
 
 pub returns-in-None : goal.returns-in-None
@@ -32,5 +33,6 @@ returns-in-None c =
     let toi_is = ap (λ (q : SymbolPacket). q.toi) c.packet.view_is in
     let is : IsPacket p = subst IsPacket c.packet.view_is c.packet.invariant in
     subst (λ (s : specs.Store). IsJudged (verdict s.budget s.held p) (charge s.held p) c.by_finding.result) c.self.view_is
-    (subst (λ (j : Judgement). IsJudged (verdict v.budget (held_of m) p) (charge (held_of m) p) j) (sym (c.by_finding.ensures ∙ ap (λ (n : ℕ). by_finding v.budget n 256 p (Wanting 0)) c.self.invariant.counted))
+    (subst (λ (j : Judgement). IsJudged (verdict v.budget (held_of m) p) (charge (held_of m) p) j)
+    (sym (c.by_finding.ensures ∙ ap (λ (n : ℕ). by_finding v.budget n 256 p (Wanting 0)) c.self.invariant.counted))
     (judged_unheld v.budget m p is (get_of v.objects p.toi ∙ ap (tree.get nat_cmp v.objects) (sym toi_is) ∙ sym c.in-None.ensures.value)))

@@ -20,20 +20,23 @@ returns-then-self-count-clause-best c =
     let s = c.self.inside in
     let all : s.settled ≡ length c.ready-count.result.now = search rules in
     subst (λ (r : Receiver). r.installed ≡ best r.held) c.self.view_is (best_is s.store.held s.installed
-    (settled_best s.store s.standings s.candidates.items s.settled s.installed c.ready-count.ensures.listed c.self.invariant (all ∙ ap (length {A = ℕ}) c.ready-count.ensures.ready)))
+    (settled_best s.store s.standings s.candidates.items s.settled s.installed c.ready-count.ensures.listed
+    c.self.invariant (all ∙ ap (length {A = ℕ}) c.ready-count.ensures.ready)))
 
 pub returns-then-self-count-clause-answer : goal.returns-then-self-count-clause-answer
 returns-then-self-count-clause-answer c =
     let s = c.self.inside in
     let all : s.settled ≡ length c.ready-count.result.now = search rules in
     subst (λ (r : Receiver). best r.held ≡ r.installed) c.self.view_is (sym (best_is s.store.held s.installed
-    (settled_best s.store s.standings s.candidates.items s.settled s.installed c.ready-count.ensures.listed c.self.invariant (all ∙ ap (length {A = ℕ}) c.ready-count.ensures.ready))))
+    (settled_best s.store s.standings s.candidates.items s.settled s.installed c.ready-count.ensures.listed
+    c.self.invariant (all ∙ ap (length {A = ℕ}) c.ready-count.ensures.ready))))
 
 pub invariant_of-self : goal.invariant_of-self
 invariant_of-self c =
     let s = c.self.inside in
     subst (λ n. IsSettling s.store c.find.new.standings c.find.new.candidates.items n c.install.new.installed) (ap (length {A = ℕ}) (sym c.ready-count.ensures.ready))
-    (settled_now s.store c.find.new.standings c.find.new.candidates.items c.install.new.installed c.ready-count.ensures.listed c.in-Ok.ensures.standings c.in-Ok.ensures.candidates c.in-Ok.ensures.every
+    (settled_now s.store c.find.new.standings c.find.new.candidates.items c.install.new.installed
+    c.ready-count.ensures.listed c.in-Ok.ensures.standings c.in-Ok.ensures.candidates c.in-Ok.ensures.every
     (subst (IsBestOf (whole s.store.held)) (sym c.install.ensures.installed) (found_best (whole s.store.held) s.installed c.in-Ok.found c.in-Ok.ensures.found)))
 
 pub invariant_of-self-in-Err : goal.invariant_of-self-in-Err
@@ -41,7 +44,8 @@ invariant_of-self-in-Err c =
     let s = c.self.inside in
     subst (λ (cs : List Candidate). IsSettling s.store c.forget.new.standings cs s.settled s.installed)
     (ap (λ (cs : List Candidate). take (length cs) c.find.new.candidates.items) (sym c.as_slice-before.ensures.value) ∙ sym c.truncate.ensures.items)
-    (forgotten s.store s.standings c.find.new.standings c.forget.new.standings s.candidates.items c.find.new.candidates.items s.settled s.installed c.ready-count.ensures.listed c.self.invariant
+    (forgotten s.store s.standings c.find.new.standings c.forget.new.standings s.candidates.items
+    c.find.new.candidates.items s.settled s.installed c.ready-count.ensures.listed c.self.invariant
     c.in-Err.ensures.others
     (λ t. c.forget.ensures t ∙ ap (λ ts. cond (is_in t ts) None (get nat_cmp c.find.new.standings t)) c.fresh_of.ensures.fresh)
     c.in-Err.ensures.candidates c.in-Err.ensures.front)
@@ -49,7 +53,9 @@ invariant_of-self-in-Err c =
 pub returns-in-Ok-clause-best : goal.returns-in-Ok-clause-best
 returns-in-Ok-clause-best c =
     let s = c.self.inside in
-    subst (λ (r : Receiver). c.install.new.installed ≡ best r.held) c.self.view_is (best_is s.store.held c.install.new.installed (subst (IsBestOf (whole s.store.held)) (sym c.install.ensures.installed) (found_best (whole s.store.held) s.installed c.in-Ok.found c.in-Ok.ensures.found)))
+    subst (λ (r : Receiver). c.install.new.installed ≡ best r.held) c.self.view_is (best_is s.store.held
+    c.install.new.installed (subst (IsBestOf (whole s.store.held)) (sym c.install.ensures.installed)
+    (found_best (whole s.store.held) s.installed c.in-Ok.found c.in-Ok.ensures.found)))
 
 pub returns-in-Ok-clause-answer : goal.returns-in-Ok-clause-answer
 returns-in-Ok-clause-answer c =
@@ -57,7 +63,8 @@ returns-in-Ok-clause-answer c =
     let is = best_is s.store.held (option_or c.in-Ok.found s.installed) (found_best (whole s.store.held) s.installed c.in-Ok.found c.in-Ok.ensures.found) in
     subst (λ (r : Receiver). Announces c.install.result r.installed (best r.held)) c.self.view_is
     (subst (λ (b : Option Shown). Announces c.install.result s.installed b) is
-    (subst (λ (n : Option ℕ). Announces n s.installed (option_or c.in-Ok.found s.installed)) (sym c.install.ensures.number) (found_told (whole s.store.held) s.installed c.in-Ok.found c.in-Ok.ensures.found)))
+    (subst (λ (n : Option ℕ). Announces n s.installed (option_or c.in-Ok.found s.installed))
+    (sym c.install.ensures.number) (found_told (whole s.store.held) s.installed c.in-Ok.found c.in-Ok.ensures.found)))
 
 pub returns-in-Err-clause-no_memory : goal.returns-in-Err-clause-no_memory
 returns-in-Err-clause-no_memory c =
