@@ -3,7 +3,7 @@ ghost use Rattle.std.specs.Option.{ForSome};
 ghost use Rattle.carousel_cid.specs.Inner.Listing as specs;
 
 use crate::number::number_below;
-use crate::places::place_of;
+use meta_text::place_of;
 
 /// The bound of the identifiers that can be listed. The widest has 112 bits, as in a header.
 pub(crate) const IDENTIFIER_BOUND: u128 = 1 << 112;

@@ -10,7 +10,6 @@ mod kind;
 pub mod laws;
 mod list;
 mod number;
-mod places;
 mod reading;
 #[cfg(test)]
 mod tests;

@@ -5,14 +5,13 @@ ghost use Rattle.std.specs.Option.{ForSome};
 ghost use Rattle.carousel_cid.specs.declared.entry.Entry.{Entry};
 ghost use Rattle.carousel_cid.specs.Inner.Listing as specs;
 ghost use Rattle.carousel_cid.specs.IdentifierList.{size_of};
-ghost use Rattle.meta_text.specs.Lines.{without_return};
 ghost use Rattle.carousel_cid.specs.Causes.{list_fault};
 ghost use Rattle.carousel_cid.specs.Repeats.{first_places};
 ghost use Rattle.carousel_cid.specs.Inner.Walks.{texts_from, added, added_all, AreKeysOf};
 
 use crate::entry::{Entry, read_entry};
 use crate::kind::Cause;
-use crate::places::place_of;
+use meta_text::{place_of, without_return};
 use std::alloc::{AllocError, Global};
 use std::collections::BTreeSet;
 
@@ -140,14 +139,5 @@ fn without_line_end(body: &[u8]) -> &[u8]
     match body {
         [front @ .., b'\n'] => without_return(front),
         _ => body,
-    }
-}
-
-fn without_return(line: &[u8]) -> &[u8]
-    ensures { result.now ≡ without_return line.now }
-{
-    match line {
-        [front @ .., b'\r'] => front,
-        _ => line,
     }
 }

@@ -1,6 +1,7 @@
 -- What is wrong with a line, by the place of its first colon.
-use Rattle.std.proofs.Common.{◌≡◌, ℕ, ◌+◌, Bool, true, false, not, cond, List, take, drop, Option, Some, None, refl, ap, ◌∙◌, arith}
+use Rattle.std.proofs.Common.{◌≡◌, ℕ, ◌+◌, Bool, true, false, not, List, [], ◌∷◌, take, drop, Option, Some, None, refl, ap, ◌∙◌, arith}
 use Rattle.std.specs.Prelude.{position}
+use Rattle.wire_bytes.specs.FirstFault.{fault_when, first_fault}
 use Rattle.std.specs.List.{list_any}
 use Rattle.meta_text.specs.declared.fault.FieldFault.{FieldFault}
 use Rattle.meta_text.specs.declared.fault.FieldFault.TheVariants.{NoColon, BadName, BadValue}
@@ -11,7 +12,7 @@ use Rattle.meta_text.proofs.Places.{found_at, none_at, any_from_place, any_witho
 
 -- the three tests of a line, as their answers choose the fault
 chosen : ℕ → Bool → Bool → Bool → Option FieldFault
-chosen n colon name value = cond (not colon) (Some (NoColon n)) (cond (not name) (Some (BadName n)) (cond (not value) (Some (BadValue n)) None))
+chosen n colon name value = first_fault (fault_when (not colon) (NoColon n) ∷ fault_when (not name) (BadName n) ∷ fault_when (not value) (BadValue n) ∷ [])
 
 fault_by : (n : ℕ) (line : List ℕ) (colon name value : Bool) → list_any is_colon line ≡ colon
     → is_name (name_in line) ≡ name → is_clean (value_in line) ≡ value → fault_of (n, line) ≡ chosen n colon name value

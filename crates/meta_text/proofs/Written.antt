@@ -9,7 +9,8 @@ use Rattle.meta_text.specs.Text.{is_name_byte, is_empty, is_name, is_value_byte,
 use Rattle.std.specs.Str.{is_utf8}
 use Rattle.meta_text.specs.Fields.{Pair, IsPair, ArePairs, line_of, written}
 use Rattle.meta_text.specs.Lines.{is_line_feed, is_colon, cut, begin_with, without_return, after_return, lines_of, numbered, name_in, value_in, pair_in, pairs_in}
-use Rattle.meta_text.specs.Reading.{fault_of, first_fault, unless, said, reading}
+use Rattle.meta_text.specs.Reading.{fault_of, fault_in, said, reading}
+use Rattle.wire_bytes.specs.FirstFault.{unless_fault}
 use Rattle.meta_text.proofs.Places.{any_from_place}
 use Rattle.meta_text.proofs.Faults.{fault_none_by}
 use Rattle.meta_text.proofs.Runs.{with_front, unless_front}
@@ -112,9 +113,9 @@ said_first n pair lines is =
     let own : pair_in (n, text_of pair) ≡ pair = ap (λ name. (name, value_in (text_of pair)))
     (name_of_text pair is) ∙ ap (λ value. (pair.0, value)) (value_of_text pair is) in
     ap said some
-    ∙ ap (λ f. unless (option_or f (first_fault later)) (pair_in (n, text_of pair) ∷ pairs_in later)) (sound_text n pair is)
-    ∙ ap (λ p. unless (first_fault later) (p ∷ pairs_in later)) own
-    ∙ sym (unless_front (pair ∷ []) (pairs_in later) (first_fault later))
+    ∙ ap (λ f. unless_fault (option_or f (fault_in later)) (pair_in (n, text_of pair) ∷ pairs_in later)) (sound_text n pair is)
+    ∙ ap (λ p. unless_fault (fault_in later) (p ∷ pairs_in later)) own
+    ∙ sym (unless_front (pair ∷ []) (pairs_in later) (fault_in later))
 
 said_written : (n : ℕ) (pairs : List Pair) → ArePairs pairs → said (numbered n (lines_of (written pairs))) ≡ Ok pairs
 said_written n [] are = refl

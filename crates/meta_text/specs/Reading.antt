@@ -1,7 +1,8 @@
 -- What a text of metadata fields says, or the fault of its first faulty line.
-use Rattle.std.specs.Prelude.{◌≡◌, ℕ, not, List, [], ◌∷◌, Option, Some, None, Result, Ok, Err, if◌then◌else◌}
+use Rattle.std.specs.Prelude.{◌≡◌, ℕ, not, List, [], ◌∷◌, Option, Some, None, Result, Ok, Err}
 use Rattle.std.specs.List.{list_any}
 use Rattle.std.specs.Option.{option_or}
+use Rattle.wire_bytes.specs.FirstFault.{fault_when, first_fault, unless_fault}
 use Rattle.meta_text.specs.declared.fault.FieldFault.{FieldFault}
 use Rattle.meta_text.specs.declared.fault.FieldFault.TheVariants.{NoColon, BadName, BadValue, Memory}
 use Rattle.meta_text.specs.Text.{is_name, is_clean}
@@ -10,24 +11,20 @@ use Rattle.meta_text.specs.Lines.{Line, is_colon, name_in, value_in, lines_of, n
 
 -- what is wrong with a line: the first of its causes
 abbrev pub fault_of : Line → Option FieldFault
-fault_of line =
-    if not (list_any is_colon line.1) then Some (NoColon line.0)
-    else (if not (is_name (name_in line.1)) then Some (BadName line.0)
-    else (if not (is_clean (value_in line.1)) then Some (BadValue line.0)
-    else None))
+fault_of line = first_fault (
+    fault_when (not (list_any is_colon line.1)) (NoColon line.0)
+    ∷ fault_when (not (is_name (name_in line.1))) (BadName line.0)
+    ∷ fault_when (not (is_clean (value_in line.1))) (BadValue line.0)
+    ∷ [])
 
 -- the fault of the first line that has one
-abbrev pub first_fault : List Line → Option FieldFault
-first_fault [] = None
-first_fault (line ∷ lines) = option_or (fault_of line) (first_fault lines)
-
-abbrev pub unless : Option FieldFault → List Pair → Result (List Pair) FieldFault
-unless None pairs = Ok pairs
-unless (Some fault) pairs = Err fault
+abbrev pub fault_in : List Line → Option FieldFault
+fault_in [] = None
+fault_in (line ∷ lines) = option_or (fault_of line) (fault_in lines)
 
 -- the pairs of the lines, unless a line is faulty
 abbrev pub said : List Line → Result (List Pair) FieldFault
-said lines = unless (first_fault lines) (pairs_in lines)
+said lines = unless_fault (fault_in lines) (pairs_in lines)
 
 -- what the text says; its lines are counted from 1
 unfoldable pub reading : List ℕ → Result (List Pair) FieldFault

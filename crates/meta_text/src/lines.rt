@@ -7,8 +7,9 @@ use crate::fault::FieldFault;
 use crate::text;
 use std::str;
 
-/// The first line of a text that isn't empty, and what follows it.
-pub(crate) fn split_line(bytes: &[u8]) -> (&[u8], &[u8])
+/// The first line of a text that isn't empty, without its end, and what follows it. A line ends with a line feed,
+/// or with a carriage return and a line feed (RFC 7230, section 3.5); the last one may do without.
+pub fn split_line(bytes: &[u8]) -> (&[u8], &[u8])
     requires { 0 < length bytes.now }
     ensures lines { lines_of bytes.now ≡ result.0.now ∷ lines_of result.1.now }
     ensures shorter { length result.1.now < length bytes.now }
@@ -19,13 +20,15 @@ pub(crate) fn split_line(bytes: &[u8]) -> (&[u8], &[u8])
     }
 }
 
-fn place_of(bytes: &[u8], byte: u8) -> Option<usize>
+/// The first place at which a byte stands.
+pub fn place_of(bytes: &[u8], byte: u8) -> Option<usize>
     ensures { result ≡ position (λ b. b == byte) bytes.now }
 {
     bytes.iter().position(|b| *b == byte)
 }
 
-fn without_return(line: &[u8]) -> &[u8]
+/// A line without one carriage return at its end.
+pub fn without_return(line: &[u8]) -> &[u8]
     ensures { result.now ≡ without_return line.now }
 {
     match line {

@@ -1,7 +1,7 @@
 ghost use Rattle.std.specs.Prelude.{◌≡◌, ◌≢◌, ◌≤◌, ◌++◌, ◌∷◌, [], Some, None, IsOk, OnOk, OnErr, IfOk, IfErr};
 ghost use Rattle.meta_text.specs.declared.fault.FieldFault.TheVariants.{Memory};
 ghost use Rattle.meta_text.specs.Lines.{numbered, lines_of, pairs_in};
-ghost use Rattle.meta_text.specs.Reading.{first_fault, reading, Gives};
+ghost use Rattle.meta_text.specs.Reading.{fault_in, reading, Gives};
 
 use crate::fault::FieldFault;
 use crate::fields::Fields;
@@ -20,8 +20,8 @@ pub(crate) fn read(alloc: Global, bytes: &[u8]) -> Result<Fields, FieldFault>
 
 /// How many pairs the lines say, where none is faulty.
 fn sound_pairs(bytes: &[u8]) -> Result<usize, FieldFault>
-    ensures sound { OnOk result (first_fault (numbered 1 (lines_of bytes.now)) ≡ None) }
-    ensures fault { IfErr result (λ e. first_fault (numbered 1 (lines_of bytes.now)) ≡ Some e) }
+    ensures sound { OnOk result (fault_in (numbered 1 (lines_of bytes.now)) ≡ None) }
+    ensures fault { IfErr result (λ e. fault_in (numbered 1 (lines_of bytes.now)) ≡ Some e) }
 {
     let mut rest = bytes;
     let mut number: u64 = 0;
@@ -37,9 +37,9 @@ fn sound_pairs(bytes: &[u8]) -> Result<usize, FieldFault>
 
 /// How many pairs a line says: one, or none where it is empty.
 fn sound_line(line: &[u8], number: u64) -> Result<usize, FieldFault>
-    ensures sound { OnOk result (first_fault (numbered number (line.now ∷ [])) ≡ None) }
+    ensures sound { OnOk result (fault_in (numbered number (line.now ∷ [])) ≡ None) }
     ensures few { IfOk result (λ pairs. pairs ≤ 1) }
-    ensures fault { IfErr result (λ e. first_fault (numbered number (line.now ∷ [])) ≡ Some e) }
+    ensures fault { IfErr result (λ e. fault_in (numbered number (line.now ∷ [])) ≡ Some e) }
 {
     if line.is_empty() {
         return Ok(0);
@@ -68,9 +68,9 @@ fn collect(alloc: Global, bytes: &[u8], pairs: usize) -> Result<Fields, FieldFau
 
 /// Adds the pair of a line; an empty line says nothing.
 fn add_line(fields: &mut Fields, number: u64, line: &[u8]) -> Result<(), FieldFault>
-    ensures sound { OnOk result (first_fault (numbered number (line.now ∷ [])) ≡ None) }
+    ensures sound { OnOk result (fault_in (numbered number (line.now ∷ [])) ≡ None) }
     ensures ok { OnOk result (fields.new ≡ fields.old ++ pairs_in (numbered number (line.now ∷ []))) }
-    ensures fault { IfErr result (λ e. e ≢ Memory → first_fault (numbered number (line.now ∷ [])) ≡ Some e) }
+    ensures fault { IfErr result (λ e. e ≢ Memory → fault_in (numbered number (line.now ∷ [])) ≡ Some e) }
 {
     if line.is_empty() {
         return Ok(());

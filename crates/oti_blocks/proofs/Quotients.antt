@@ -1,9 +1,9 @@
 -- T, N and the sizes of blocks as numbers.
 use Rattle.std.proofs.Common.{◌≡◌, ℕ, zero, suc, ◌+◌, ◌-◌, ◌*◌, ◌/◌, ◌%◌, ◌^◌, ◌<◌, ◌≤◌, min, refl, ap, ◌∙◌, arith, inl, inr}
 use Rattle.std.specs.Int.{div_ceil}
-use Rattle.std.proofs.Math.Nat.{mod-lt, lt_of_mul-lt-mul_right, le-mul_of_pos_right, mul-le-mul_left, mul-le-mul_right, le-div_iff_mul-le, div-le_of_le-mul}
+use Rattle.std.proofs.Math.Nat.{mod-lt, lt_of_mul-lt-mul_right, le-mul_of_pos_right, mul-le-mul_left, mul-le-mul_right, le-div_iff_mul-le, div-mul-le_self, div-le_of_le-mul}
 use Rattle.std.proofs.lemmas.Bool.{cases_lt}
-use Rattle.std.proofs.lemmas.Nat.{div-add-mod'}
+use Rattle.std.proofs.lemmas.Nat.{le-div, div-add-mod'}
 use Rattle.oti_blocks.specs.Partition.{ObjectInformation, IsSound, sources, blocks, large, small, large_count, encoding_count, last_length}
 
 -- ---- quotients
@@ -124,6 +124,14 @@ last_length_bounds o sound =
     let b = sources_bounds o sound in
     let whole : (sources o - 1) * o.symbol + o.symbol ≡ sources o * o.symbol = back_one (sources o) o.symbol some in
     (omega (arith, b.1, whole), omega (arith, b.1, whole, sound.some_symbol), omega (arith, b.0, whole))
+
+-- more source symbols give no fewer encoding symbols
+pub encoding_rises : (o : ObjectInformation) → IsSound o → (k l : ℕ) → k ≤ l → encoding_count o k ≤ encoding_count o l
+unfolding encoding_count
+encoding_rises o sound k l le =
+    let product : k * o.max_n / o.max_block * o.max_block ≤ l * o.max_n =
+    omega (arith, div-mul-le_self (k * o.max_n) o.max_block, mul-le-mul_right o.max_n le) in
+    le-div (k * o.max_n / o.max_block) (l * o.max_n) o.max_block (omega (arith, sound.some_block)) product
 
 -- a block has no fewer encoding symbols than source symbols, and no more than are stated
 pub encoding_bounds : (o : ObjectInformation) → IsSound o → (k : ℕ) → k ≤ o.max_block → (k ≤ encoding_count o k) × (encoding_count o k ≤ o.max_n)

@@ -6,7 +6,7 @@ use Rattle.std.proofs.lemmas.List.Sums.{sum_by-append, sum_by_more, sum_by_more_
 use Rattle.std.proofs.lemmas.List.Folds.{sum_by-replicate}
 use Rattle.std.proofs.Math.Seq.{take-append-add, take-length}
 use Rattle.oti_blocks.specs.Partition.{ObjectInformation, IsSound, sources, blocks, large, small, large_count, sizes, size_at, start_at, encoding_at, HasSource}
-use Rattle.oti_blocks.proofs.Quotients.{sources_le, sources_split, small_pos, small_le_large, large_le, encoding_bounds}
+use Rattle.oti_blocks.proofs.Quotients.{sources_le, sources_split, small_pos, small_le_large, large_le, encoding_rises, encoding_bounds}
 
 -- I blocks of one source symbol more
 total_of : (i rest a : ℕ) → suc i * (a + 1) + rest * a ≡ a * (suc i + rest) + suc i
@@ -67,6 +67,21 @@ size_bounds o sound b lt =
 -- and encoding symbols, at least as many and not too many
 pub encoding_at_bounds : (o : ObjectInformation) → IsSound o → (b : ℕ) → b < blocks o → (size_at o b ≤ encoding_at o b) × (encoding_at o b ≤ o.max_n)
 encoding_at_bounds o sound b lt = encoding_bounds o sound (size_at o b) (size_bounds o sound b lt).1
+
+-- a later block is no larger: the larger ones come first
+pub size_falls : (o : ObjectInformation) → IsSound o → (b c : ℕ) → b ≤ c → c < blocks o → size_at o c ≤ size_at o b
+size_falls o sound b c le lt =
+    let order = small_le_large o sound in
+    elim (cases_lt c (large_count o)) [
+      | inl front ↦ omega (arith, size_front o c front, size_front o b (omega (arith, front, le)))
+      | inr back ↦ elim (cases_lt b (large_count o)) [
+        | inl front ↦ omega (arith, size_back o c back lt, size_front o b front, order)
+        | inr both ↦ omega (arith, size_back o c back lt, size_back o b both (omega (arith, le, lt)))
+      ]
+    ]
+
+pub encoding_falls : (o : ObjectInformation) → IsSound o → (b c : ℕ) → b ≤ c → c < blocks o → encoding_at o c ≤ encoding_at o b
+encoding_falls o sound b c le lt = encoding_rises o sound (size_at o c) (size_at o b) (size_falls o sound b c le lt)
 
 -- the start of a larger block, and of the first smaller one
 pub start_front : (o : ObjectInformation) (b : ℕ) → b ≤ large_count o → start_at o b ≡ b * large o

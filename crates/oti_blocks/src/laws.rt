@@ -37,6 +37,12 @@ pub fn blocks_end_within()
     ensures { (o : ObjectInformation) → IsSound o → (b : ℕ) → b < blocks o → start_at o b + size_at o b ≤ sources o }
 {}
 
+/// No block has more source symbols or more encoding symbols than one before it.
+pub fn sizes_never_grow()
+    ensures sources { (o : ObjectInformation) → IsSound o → (b c : ℕ) → b ≤ c → c < blocks o → size_at o c ≤ size_at o b }
+    ensures encoding { (o : ObjectInformation) → IsSound o → (b c : ℕ) → b ≤ c → c < blocks o → encoding_at o c ≤ encoding_at o b }
+{}
+
 /// A block has at least its source symbols as encoding symbols, and at most as many as stated.
 pub fn encoding_is_bounded()
     ensures least { (o : ObjectInformation) → IsSound o → (b : ℕ) → b < blocks o → size_at o b ≤ encoding_at o b }
