@@ -1,3 +1,4 @@
 pub mod Partition
+pub mod Sent
 pub mod Faults
 pub mod Wire

@@ -1,6 +1,7 @@
 -- The source rows of a block, and the rows of its symbols (RFC 5510, section 8.4).
-use Rattle.std.specs.Prelude.{ℕ, zero, suc, ◌≡◌, ◌≤◌, ◌<◌, ◌*◌, List, [], ◌∷◌, length, map, take, drop, slice_index}
+use Rattle.std.specs.Prelude.{ℕ, ◌≡◌, ◌≤◌, ◌<◌, ◌*◌, List, length, map, slice_index}
 use Rattle.gf256.specs.Polynomial.{AreBytes}
+pub use Rattle.wire_bytes.specs.Rows.{cut}
 use Rattle.rs_code.specs.Symbol.{IsSymbol}
 
 -- k source rows of `size` bytes, one after another
@@ -15,11 +16,6 @@ pub record AreRows (rows : Rows) : Type 0 where
   pub wide : 1 ≤ rows.size
   pub whole : length rows.bytes ≡ rows.k * rows.size
   pub bytes : AreBytes rows.bytes
-
--- the first k rows of `size` bytes
-abbrev pub cut : ℕ → ℕ → List ℕ → List (List ℕ)
-cut zero size bytes = []
-cut (suc k) size bytes = take size bytes ∷ cut k size (drop size bytes)
 
 -- the rows of a block
 abbrev pub rows_of : Rows → List (List ℕ)
