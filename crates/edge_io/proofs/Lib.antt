@@ -1,6 +1,7 @@
 pub mod Fills
 pub mod Items
 pub mod LogLaws
+pub mod LogWrites
 pub mod Reading
 pub mod Short
 pub mod Texts

@@ -47,7 +47,7 @@ datagrams_short text =
       | inr h ↦ subst AreShort (sym (datagrams_without text h)) tt
     ]
 
-at_most : (ds : List (List ℕ)) → AreShort ds → All (λ d. length d ≤ 65535) ds
+pub at_most : (ds : List (List ℕ)) → AreShort ds → All (λ d. length d ≤ 65535) ds
 at_most ds s = λ k d l. let short = All-from_recursion (λ d. length d < 2 ^ 16) ds s k d l in omega (arith, short)
 
 pub left_short : (stage : Stage) (bytes : List ℕ) → All (λ d. length d ≤ 65535) (datagrams_left stage bytes)

@@ -1,5 +1,6 @@
 pub mod Faults
 pub mod Log
+pub mod LogWriting
 pub mod MemShelves
 pub mod NamedFiles
 pub mod Nexts

@@ -3,7 +3,8 @@
 //! Each kind is a trait. Its ghost members say what an object holds, where it tells that
 //! (`told`), and count its faults. Beside the traits stand forms in memory that fail at stated
 //! calls (`Mem..`), forms that never fail (`Sure..`), forms over real devices, which tell
-//! nothing, and `LogReader`, which reads the datagrams of a packet log.
+//! nothing, `LogReader`, which reads the datagrams of a packet log, and `LogWriter`, which writes
+//! them.
 #![tactic(auto)]
 
 mod bytes;
@@ -17,11 +18,15 @@ mod files;
 mod fill;
 mod finished_instance;
 mod folder;
+mod folder_files;
 mod folder_shelf;
 pub mod laws;
 mod log_reader;
+mod log_writer;
 mod mem_bytes;
 mod mem_datagrams;
+mod mem_emit;
+mod mem_files;
 mod mem_shelf;
 mod mem_text;
 mod next;
@@ -48,10 +53,14 @@ pub use failures::Failures;
 pub use file_fault::FileFault;
 pub use files::Files;
 pub use finished_instance::FinishedInstance;
+pub use folder_files::FolderFiles;
 pub use folder_shelf::FolderShelf;
 pub use log_reader::LogReader;
+pub use log_writer::LogWriter;
 pub use mem_bytes::MemBytes;
 pub use mem_datagrams::MemDatagrams;
+pub use mem_emit::MemEmit;
+pub use mem_files::MemFiles;
 pub use mem_shelf::MemShelf;
 pub use mem_text::MemText;
 pub use next::Next;

@@ -11,7 +11,7 @@ use crate::fill::fill;
 use crate::{Bytes, Datagrams, Failed, Next, Place};
 
 /// The eight bytes at the front of a packet log.
-const MAGIC: [u8; 8] = *b"FCASTLG1";
+pub const MAGIC: [u8; 8] = *b"FCASTLG1";
 
 /// How far the log has been read. Places are counted in bytes from the start of the whole text.
 #[derive(Clone, Copy)]

@@ -16,6 +16,18 @@ pub struct SureEmit {
 }
 
 impl SureEmit {
+    /// A sink to which these datagrams were sent already, each of at most 65,535 bytes.
+    pub fn with_sent(sent: Vec<Vec<u8>>) -> SureEmit
+        requires { All (λ d. vec_len d ≤ 65535) sent.items }
+        ensures sent { result.sent ≡ sent }
+        ensures connected { result.connected ≡ None }
+    {
+        SureEmit {
+            sent,
+            connected: None,
+        }
+    }
+
     /// A sink to which nothing was sent.
     pub fn new(alloc: Global) -> SureEmit
         ensures sent { result.sent.items ≡ [] }

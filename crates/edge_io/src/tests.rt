@@ -2,6 +2,9 @@ ghost use Rattle.std.specs.Prelude.{◌≡◌, ◌≤◌, length, vec_len, All, 
 
 mod devices;
 mod folder;
+mod folder_files;
+mod log_writer;
+mod mem_forms;
 mod real_forms;
 
 use super::*;

@@ -4,7 +4,8 @@ ghost use Rattle.std.specs.Prelude.{◌≤◌, length};
 
 use super::devices::{Fault, FaultyReader, FaultyWriter};
 use crate::{
-    Bytes, Datagrams, Failed, LogReader, Next, ReaderBytes, SureBytes, Text, Trouble, WriterText,
+    Bytes, Datagrams, Emit, Failed, LogReader, LogWriter, Next, Place, ReaderBytes, SureBytes,
+    Text, Trouble, WriterText,
 };
 use std::alloc::{AllocError, Global};
 use std::io::{BufReader, BufWriter, ErrorKind};
@@ -239,5 +240,54 @@ fn failed_flush_is_a_failure(rt: HostRuntime) -> Result<(), Fail> {
         assert_eq!(rt; text.finish(), done, "call {call}");
         assert_eq!(rt; text.failures.count, count, "call {call}");
     }
+    Ok(())
+}
+
+/// A log on a writer goes out in large pieces: nothing before `finish`, and then all.
+#[test]
+fn log_is_written_in_large_pieces(rt: HostRuntime) -> Result<(), Fail> {
+    let alloc = rt.alloc();
+    let output = BufWriter::with_capacity(alloc, 64, writer(alloc, 100, NONE))?;
+    let mut log = LogWriter::new(alloc, WriterText::new(output));
+    assert_eq!(rt; log.connect(&Place::Log), Ok(()));
+    assert_eq!(rt; log.send(b"hi"), Ok(()));
+    assert_eq!(rt; log.send(b""), Ok(()));
+    assert_eq!(rt; log.sink.writer.get_ref().call, 0);
+    assert_eq!(rt; log.sink.finish(), Ok(()));
+    let device = log.sink.writer.get_ref();
+    let wanted = b"FCASTLG1\x00\x02hi\x00\x00".as_slice();
+    assert_eq!(rt; device.bytes.as_slice(), wanted);
+    assert_eq!(rt; device.flushes, 1);
+    Ok(())
+}
+
+/// A log of two datagrams of 40 bytes on a writer whose call of this number fails: how both
+/// `send` and `finish` answer.
+fn compare_log(
+    rt: &impl Abort,
+    alloc: Global,
+    call: u32,
+    wanted: [Result<(), Trouble>; 3],
+) -> Result<(), Fail> {
+    let device = writer(alloc, 100, at(call, ErrorKind::StorageFull));
+    let output = BufWriter::with_capacity(alloc, 64, device)?;
+    let mut log = LogWriter::new(alloc, WriterText::new(output));
+    assert_eq!(rt; log.connect(&Place::Log), Ok(()), "call {call}");
+    assert_eq!(rt; log.send(&[0x5A; 40]), wanted[0], "call {call}");
+    assert_eq!(rt; log.send(&[0x5A; 40]), wanted[1], "call {call}");
+    assert_eq!(rt; log.sink.finish(), wanted[2], "call {call}");
+    assert_eq!(rt; log.sink.failures.count, 1, "call {call}");
+    Ok(())
+}
+
+/// The second datagram finds no room in the buffer of 64 bytes, so what it holds goes out first.
+/// The rest goes out at `finish`, and then the device is flushed.
+#[test]
+fn failed_write_of_a_log_is_a_failure(rt: HostRuntime) -> Result<(), Fail> {
+    let alloc = rt.alloc();
+    let failed = Err(Trouble::Failed);
+    compare_log(&rt, alloc, 1, [Ok(()), failed, Ok(())])?;
+    compare_log(&rt, alloc, 2, [Ok(()), Ok(()), failed])?;
+    compare_log(&rt, alloc, 3, [Ok(()), Ok(()), failed])?;
     Ok(())
 }
