@@ -33,6 +33,9 @@ impl<T: Text> LogWriter<T> {
         ensures sink { result.sink ≡ sink }
         ensures connected { result.connected ≡ None }
         ensures begun { result.begun ≡ false }
+        ensures told { T.told sink → T.written sink ≡ [] → ⟦<LogWriter<T> as Emit>⟧.told result }
+        ensures sent { ⟦<LogWriter<T> as Emit>⟧.sent result ≡ [] }
+        ensures faults { ⟦<LogWriter<T> as Emit>⟧.faults result ≡ T.faults sink }
     {
         LogWriter {
             sink,

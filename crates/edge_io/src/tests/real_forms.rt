@@ -261,8 +261,8 @@ fn log_is_written_in_large_pieces(rt: HostRuntime) -> Result<(), Fail> {
     Ok(())
 }
 
-/// A log of two datagrams of 40 bytes on a writer whose call of this number fails: how both
-/// `send` and `finish` answer.
+/// A log of two datagrams on a writer whose call of this number fails: how both `send` and
+/// `finish` answer.
 fn compare_log(
     rt: &impl Abort,
     alloc: Global,
@@ -270,17 +270,17 @@ fn compare_log(
     wanted: [Result<(), Trouble>; 3],
 ) -> Result<(), Fail> {
     let device = writer(alloc, 100, at(call, ErrorKind::StorageFull));
-    let output = BufWriter::with_capacity(alloc, 64, device)?;
+    let output = BufWriter::with_capacity(alloc, 16, device)?;
     let mut log = LogWriter::new(alloc, WriterText::new(output));
     assert_eq!(rt; log.connect(&Place::Log), Ok(()), "call {call}");
-    assert_eq!(rt; log.send(&[0x5A; 40]), wanted[0], "call {call}");
-    assert_eq!(rt; log.send(&[0x5A; 40]), wanted[1], "call {call}");
+    assert_eq!(rt; log.send(b"hi"), wanted[0], "call {call}");
+    assert_eq!(rt; log.send(b"hello!"), wanted[1], "call {call}");
     assert_eq!(rt; log.sink.finish(), wanted[2], "call {call}");
     assert_eq!(rt; log.sink.failures.count, 1, "call {call}");
     Ok(())
 }
 
-/// The second datagram finds no room in the buffer of 64 bytes, so what it holds goes out first.
+/// The second datagram finds no room in the buffer of 16 bytes, so what it holds goes out first.
 /// The rest goes out at `finish`, and then the device is flushed.
 #[test]
 fn failed_write_of_a_log_is_a_failure(rt: HostRuntime) -> Result<(), Fail> {
