@@ -1,0 +1,4 @@
+pub mod Prefixes
+pub mod Rising
+pub mod Sound
+pub mod Known
