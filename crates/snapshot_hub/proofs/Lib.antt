@@ -2,3 +2,4 @@ pub mod Prefixes
 pub mod Rising
 pub mod Sound
 pub mod Known
+pub mod Adding

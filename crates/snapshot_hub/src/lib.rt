@@ -1,4 +1,9 @@
 //! Published instances, and looks at them that never wait.
 #![tactic(auto)]
 
+mod book;
+mod front;
 pub mod laws;
+mod rule;
+
+pub use book::Naming;

@@ -1,0 +1,50 @@
+//! The rule of the book that keeps a hub's history, and the one step that adds to it.
+use carousel_cid::Instance;
+use logbook::{Gain, Plain, Play, Rule};
+
+/// The book's first word counts the history, in which numbers never fall.
+pub struct Law;
+
+impl Rule<Instance, u64> for Law {
+    ghost use Rattle.std.specs.Prelude.{[]};
+    ghost use base.Fml.{ftrue};
+    ghost use Rattle.snapshot_hub.specs.Inner.Kept.{IsKept};
+
+    ghost holds = { λ cells log. IsKept cells log };
+
+    ghost first = { [] };
+
+    ghost hinted = { λ n log. Unit {0} };
+
+    ghost shows = { λ log. [] };
+
+    ghost keeps = { λ names log. ftrue };
+
+    ghost moves = { λ ask before after answer. Unit {0} };
+}
+
+/// Callers trade nothing.
+pub struct Nothing;
+
+impl Gain<Instance, u64> for Nothing {
+    ghost use base.Fml.{ftrue};
+
+    ghost after = { λ names about answer. ftrue };
+}
+
+/// The step that adds an instance.
+pub struct Add;
+
+impl Play<Instance, u64> for Add {
+    ghost use Rattle.snapshot_hub.specs.Inner.Kept.{Adds};
+
+    ghost then = { Adds };
+}
+
+impl Plain<Instance, Instance, u64> for Add {
+    ghost use Rattle.std.specs.Prelude.{None};
+
+    ghost ask = { λ instance. instance };
+
+    ghost state = { λ instance. None };
+}
