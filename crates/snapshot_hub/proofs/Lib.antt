@@ -3,3 +3,4 @@ pub mod Rising
 pub mod Sound
 pub mod Known
 pub mod Adding
+pub mod Longer

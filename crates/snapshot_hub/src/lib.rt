@@ -5,5 +5,6 @@ mod book;
 mod front;
 pub mod laws;
 mod rule;
+mod snapshot;
 
 pub use book::Naming;
