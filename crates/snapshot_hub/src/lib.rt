@@ -4,7 +4,11 @@
 mod book;
 mod front;
 pub mod laws;
+mod look;
 mod rule;
 mod snapshot;
+mod told;
 
 pub use book::Naming;
+pub use look::{Glance, Look};
+pub use told::Told;

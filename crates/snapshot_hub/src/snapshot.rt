@@ -99,7 +99,7 @@ impl<H: Naming> Snapshot<H> {
     }
 
     /// The one that is lent, where it is longer and can be shared, and else this one.
-    #[tactic(auto, using(crate::proofs::Longer::longer_this, crate::proofs::Longer::this_rises, crate::proofs::Longer::that_rises, crate::proofs::Longer::shorter_begins))]
+    #[tactic(auto, using(crate::proofs::Longer::renewing))]
     pub fn renewed(self, other: &Snapshot<H>) -> Snapshot<H>
         ensures goes_on { IsPrefix self result }
         ensures rising { IsRising result }
