@@ -4,3 +4,4 @@ pub mod Sound
 pub mod Known
 pub mod Adding
 pub mod Longer
+pub mod Overtaking

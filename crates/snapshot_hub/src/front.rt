@@ -1,64 +1,45 @@
 //! Beginnings of a hub's history.
 ghost use Rattle.std.specs.Prelude.{◌≡◌, ◌+◌, ◌<◌, ◌^◌, ◌++◌, ◌∷◌, [], length, nat_lt, IsTrue};
 ghost use Rattle.snapshot_hub.specs.Histories.{IsRising, MayFollow};
-ghost use Rattle.snapshot_hub.specs.Inner.Kept.{BeginOne};
+ghost use Rattle.snapshot_hub.specs.Inner.Kept.{BeginOne, count_of};
 
-use crate::book::{Book, Naming};
 use crate::rule::{Add, Law, Nothing};
 use carousel_cid::Instance;
-use logbook::{Offer, Seen};
-use std::marker::{Model, PhantomData};
+use logbook::{Offer, Seen, Word};
 
-/// A beginning of the history. Contracts see it as its instances, of which the code has the count alone.
+/// A beginning of the history, of which the code has the length alone.
 #[derive(Drop)]
-pub struct Front<H: Naming> {
+pub struct Front {
     count: u64,
-    seen: Seen<Instance, u64, Law>,
-    of: PhantomData<H>,
+    pub seen: Seen<Instance, u64, Law>,
+    ghost counted: { count ≡ length seen.log },
+    ghost rising: { IsRising seen.log },
 }
 
-impl<H: Naming> Model for Front<H> {
-    ghost use Rattle.std.specs.Prelude.{◌≡◌, List, length};
-    ghost use Rattle.carousel_cid.specs.Instances.{Shown};
-    ghost use Rattle.snapshot_hub.specs.Histories.{IsRising};
-
-    ghost Value = { List Shown };
-
-    ghost view = { λ f. f.seen.log };
-
-    ghost invariant = { λ f. (f.count ≡ length f.seen.log) × (f.seen.book ≡ H.book) × IsRising f.seen.log };
-}
-
-impl<H: Naming> Front<H> {
-    /// A front that has seen nothing.
-    pub fn empty(seen: Seen<Instance, u64, Law>) -> Front<H>
-        requires book { seen.book ≡ H.book }
-        requires empty { seen.log ≡ [] }
-        ensures { result ≡ [] }
+impl Front {
+    /// The front that has seen nothing.
+    pub fn empty(seen: Seen<Instance, u64, Law>) -> Front
+        requires { seen.log ≡ [] }
+        ensures { result.seen ≡ seen }
     {
-        Front {
-            count: 0,
-            seen,
-            of: PhantomData,
-        }
+        Front { count: 0, seen }
     }
 
     /// A copy.
-    pub fn again(&self) -> Front<H>
-        ensures same { result ≡ self.now }
-        ensures rising { IsRising self.now }
+    pub fn again(&self) -> Front
+        ensures { result.seen ≡ self.now.seen }
     {
         Front {
             count: self.count,
             seen: self.seen.again(),
-            of: PhantomData,
         }
     }
 
-    /// Says whether this front is the shorter of the two, which both begin the hub's history.
-    pub fn is_shorter(&self, other: &Front<H>) -> bool
-        ensures length { result ≡ nat_lt (length self.now) (length other.now) }
-        ensures one { BeginOne self.now other.now }
+    /// Says whether this front is the shorter of the two, which begin one history.
+    pub fn is_shorter(&self, other: &Front) -> bool
+        requires { other.now.seen.book ≡ self.now.seen.book }
+        ensures length { result ≡ nat_lt (length self.now.seen.log) (length other.now.seen.log) }
+        ensures one { BeginOne self.now.seen.log other.now.seen.log }
     {
         let mut both = self.seen.again();
         both.learn(&other.seen);
@@ -66,25 +47,25 @@ impl<H: Naming> Front<H> {
     }
 
     /// Adds an instance to all that was seen, and says whether it did. It did not where the history is longer.
-    pub fn add(&mut self, book: &Book<H>, instance: &Instance) -> bool
-        requires room { length self.old < 2 ^ 62 }
-        requires rising { MayFollow self.old instance.now }
-        ensures { IsTrue result → self.new ≡ self.old ++ instance.now ∷ [] }
+    pub fn add(&mut self, head: &Word<Instance, u64, Law>, instance: &Instance) -> bool
+        requires head { head.now ≡ count_of self.old.seen.book }
+        requires room { length self.old.seen.log < 2 ^ 62 }
+        requires rising { MayFollow self.old.seen.log instance.now }
+        ensures log { IsTrue result → self.new.seen.log ≡ self.old.seen.log ++ instance.now ∷ [] }
+        ensures book { self.new.seen.book ≡ self.old.seen.book }
     {
         let mut offer: Offer<Instance, u64, Law, Nothing> = self
             .seen
             .plain::<Nothing, Instance, Add>(instance);
         let mut pen = self.seen.no_pen();
         let count = self.count;
-        let found = book
-            .head
-            .compare_exchange::<Add, Nothing>(
-                count,
-                count + 1,
-                &mut self.seen,
-                &mut offer,
-                &mut pen,
-            );
+        let found = head.compare_exchange::<Add, Nothing>(
+            count,
+            count + 1,
+            &mut self.seen,
+            &mut offer,
+            &mut pen,
+        );
         self.count = if found == count { count + 1 } else { found };
         found == count
     }

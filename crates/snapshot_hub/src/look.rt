@@ -3,8 +3,7 @@ ghost use Rattle.std.specs.Prelude.{◌≡◌, ◌≤◌, [], option_map};
 ghost use mathlib.Core.List.{IsPrefix};
 ghost use Rattle.snapshot_hub.specs.Histories.{IsRising, height, last_of, longer, newer};
 
-use crate::book::Naming;
-use crate::rule::{Any, Free};
+use crate::naming::{Naming, Of};
 use crate::snapshot::Snapshot;
 use crate::told::Told;
 use carousel_cid::Instance;
@@ -14,17 +13,19 @@ use std::marker::Model;
 /// A reader between two looks. Contracts see it as the history that it has seen.
 #[derive(Drop)]
 pub struct Look<H: Naming> {
-    reader: Reader<Snapshot<H>, u64, Free>,
-    seen: Snapshot<H>,
+    reader: Reader<Snapshot, u64, Of<H>>,
+    seen: Snapshot,
 }
 
 impl<H: Naming> Model for Look<H> {
-    ghost use Rattle.std.specs.Prelude.{List};
+    ghost use Rattle.std.specs.Prelude.{◌≡◌, List};
     ghost use Rattle.carousel_cid.specs.Instances.{Shown};
 
     ghost Value = { List Shown };
 
-    ghost view = { λ l. l.seen };
+    ghost view = { λ l. l.seen.front.seen.log };
+
+    ghost invariant = { λ l. l.seen.front.seen.book ≡ H.book };
 }
 
 /// What a reader is shown, for as long as it likes: it holds no copy of the hub. Contracts see it as the
@@ -45,8 +46,9 @@ impl<H: Naming> Model for Glance<H> {
 
 impl<H: Naming> Look<H> {
     /// A reader that has seen nothing.
-    pub(crate) fn new(reader: Reader<Snapshot<H>, u64, Free>, seen: Snapshot<H>) -> Look<H>
-        requires { seen ≡ [] }
+    pub(crate) fn new(reader: Reader<Snapshot, u64, Of<H>>, seen: Snapshot) -> Look<H>
+        requires empty { seen.front.seen.log ≡ [] }
+        requires book { seen.front.seen.book ≡ H.book }
         ensures { result ≡ [] }
     {
         Look { reader, seen }
@@ -54,14 +56,14 @@ impl<H: Naming> Look<H> {
 
     /// Shows the last instance of what is published, or of what the reader saw before, where that is longer or the
     /// hub does not let it in. It takes no memory and waits for nobody.
-    #[tactic(auto, using(crate::proofs::Rising::height_grows))]
+    #[tactic(auto, using(crate::proofs::Rising::height_grows, crate::proofs::Prefixes::prefix_self))]
     pub fn look(self) -> Glance<H>
         ensures goes_on { IsPrefix self result }
         ensures rising { IsRising result }
         ensures number { height self ≤ height result }
     {
         let Look { reader, seen } = self;
-        match reader.enter_as::<Any>() {
+        match reader.enter_as::<Of<H>>() {
             Ok(reading) => {
                 let seen = seen.renewed(reading.get());
                 Glance {
@@ -90,7 +92,7 @@ impl<H: Naming> Look<H> {
         let Look { reader, seen } = self;
         Look {
             reader,
-            seen: seen.longer(told.snapshot),
+            seen: seen.longer(told.into_snapshot()),
         }
     }
 }

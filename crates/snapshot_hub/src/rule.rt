@@ -1,8 +1,6 @@
-//! The rule of the book that keeps a hub's history, the one step that adds to it, and the empty rule of the two copies.
-use crate::book::Naming;
-use crate::snapshot::Snapshot;
+//! The rule of the book in which a hub's history stands, and the one step that adds to it. The book is there for the
+//! proofs: the code keeps the history's length alone.
 use carousel_cid::Instance;
-use crossbeam_utils::rule::{Outcome, Protocol};
 use logbook::{Gain, Plain, Play, Rule};
 
 /// The book's first word counts the history, in which numbers never fall.
@@ -50,20 +48,4 @@ impl Plain<Instance, Instance, u64> for Add {
     ghost ask = { λ instance. instance };
 
     ghost state = { λ instance. None };
-}
-
-/// The two copies stand under no rule of their own: what a reader may conclude stands in their type.
-pub struct Free;
-
-impl<H: Naming> Protocol<Snapshot<H>, u64> for Free {
-    ghost holds = { λ snapshot views. Unit {0} };
-
-    ghost first = { 0 };
-}
-
-/// A step that tells nothing.
-pub struct Any;
-
-impl<H: Naming> Outcome<Snapshot<H>, u64> for Any {
-    ghost then = { λ view before after next. Unit {0} };
 }

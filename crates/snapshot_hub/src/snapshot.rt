@@ -5,48 +5,35 @@ ghost use mathlib.Core.List.{IsPrefix};
 ghost use Rattle.snapshot_hub.specs.Histories.{IsRising, last_of, longer};
 ghost use Rattle.snapshot_hub.specs.Inner.Kept.{BeginOne};
 
-use crate::book::Naming;
 use crate::front::Front;
+use crate::rule::Law;
 use carousel_cid::Instance;
 use left_right::Absorb;
+use logbook::Seen;
 use std::alloc::{AllocError, Global};
-use std::collections::LinkedList;
-use std::marker::Model;
 use std::sync::Arc;
 
-/// Contracts see it as the history.
+/// The last instance is shared by all who have it.
 #[derive(Drop)]
-pub struct Snapshot<H: Naming> {
+pub struct Snapshot {
     last: Option<Arc<Instance, Global>>,
-    front: Front<H>,
+    pub front: Front,
+    pub ghost last_is: { last_of front.seen.log ≡ option_map arc_value last },
 }
 
-impl<H: Naming> Model for Snapshot<H> {
-    ghost use Rattle.std.specs.Prelude.{◌≡◌, List, option_map};
-    ghost use Rattle.std.specs.Arc.{arc_value};
-    ghost use Rattle.carousel_cid.specs.Instances.{Shown};
-    ghost use Rattle.snapshot_hub.specs.Histories.{last_of};
-
-    ghost Value = { List Shown };
-
-    ghost view = { λ s. s.front };
-
-    ghost invariant = { λ s. last_of s.front ≡ option_map arc_value s.last };
-}
-
-impl<H: Naming> Snapshot<H> {
+impl Snapshot {
     /// The empty history.
-    pub fn empty(front: Front<H>) -> Snapshot<H>
-        requires { front ≡ [] }
-        ensures { result ≡ [] }
+    pub fn empty(front: Front) -> Snapshot
+        requires { front.seen.log ≡ [] }
+        ensures { result.front.seen ≡ front.seen }
     {
         Snapshot { last: None, front }
     }
 
-    /// The history that this front has seen, which ends with the instance.
-    pub fn ending(front: Front<H>, last: Arc<Instance, Global>) -> Snapshot<H>
-        requires { last_of front ≡ Some (arc_value last) }
-        ensures { result ≡ front }
+    /// The history of this front, which ends with the instance.
+    pub fn ending(front: Front, last: Arc<Instance, Global>) -> Snapshot
+        requires { last_of front.seen.log ≡ Some (arc_value last) }
+        ensures { result.front.seen ≡ front.seen }
     {
         Snapshot {
             last: Some(last),
@@ -54,17 +41,9 @@ impl<H: Naming> Snapshot<H> {
         }
     }
 
-    /// A copy of the front.
-    pub fn front(&self) -> Front<H>
-        ensures same { result ≡ self.now }
-        ensures rising { IsRising self.now }
-    {
-        self.front.again()
-    }
-
-    /// The same history, and the same instance, shared. It fails only where the count of owners is full.
-    pub fn share(&self) -> Result<Snapshot<H>, AllocError>
-        ensures { IfOk result (λ r. r ≡ self.now) }
+    /// The same history, with the same instance. It fails only where the count of the instance's owners is full.
+    pub fn share(&self) -> Result<Snapshot, AllocError>
+        ensures { IfOk result (λ r. r.front.seen ≡ self.now.front.seen) }
     {
         let last = match &self.last {
             Some(instance) => Some(Arc::try_clone(instance)?),
@@ -78,7 +57,7 @@ impl<H: Naming> Snapshot<H> {
 
     /// The last instance, which is absent where the history is empty.
     pub fn instance(&self) -> Option<&Instance>
-        ensures { option_map (λ i. i.now) result ≡ last_of self.now }
+        ensures { option_map (λ i. i.now) result ≡ last_of self.now.front.seen.log }
     {
         match &self.last {
             Some(instance) => Some(&**instance),
@@ -87,9 +66,11 @@ impl<H: Naming> Snapshot<H> {
     }
 
     /// The longer of the two.
-    pub fn longer(self, other: Snapshot<H>) -> Snapshot<H>
-        ensures longer { result ≡ longer self other }
-        ensures one { BeginOne self other }
+    pub fn longer(self, other: Snapshot) -> Snapshot
+        requires { other.front.seen.book ≡ self.front.seen.book }
+        ensures longer { result.front.seen.log ≡ longer self.front.seen.log other.front.seen.log }
+        ensures book { result.front.seen.book ≡ self.front.seen.book }
+        ensures one { BeginOne self.front.seen.log other.front.seen.log }
     {
         if self.front.is_shorter(&other.front) {
             other
@@ -100,9 +81,11 @@ impl<H: Naming> Snapshot<H> {
 
     /// The one that is lent, where it is longer and can be shared, and else this one.
     #[tactic(auto, using(crate::proofs::Longer::renewing))]
-    pub fn renewed(self, other: &Snapshot<H>) -> Snapshot<H>
-        ensures goes_on { IsPrefix self result }
-        ensures rising { IsRising result }
+    pub fn renewed(self, other: &Snapshot) -> Snapshot
+        requires { other.now.front.seen.book ≡ self.front.seen.book }
+        ensures goes_on { IsPrefix self.front.seen.log result.front.seen.log }
+        ensures rising { IsRising result.front.seen.log }
+        ensures book { result.front.seen.book ≡ self.front.seen.book }
     {
         if !self.front.is_shorter(&other.front) {
             return self;
@@ -115,18 +98,14 @@ impl<H: Naming> Snapshot<H> {
 }
 
 /// Each copy takes in what is published whole, so a later publish overtakes one that was left pending.
-impl<H: Naming> Absorb<Snapshot<H>> for Snapshot<H> {
-    type State = LinkedList<Instance>;
+impl Absorb<Snapshot> for Snapshot {
+    type State = Seen<Instance, u64, Law>;
 
-    ghost state = { λ s. s };
+    ghost state = { λ s. s.front.seen };
 
-    ghost applied = { λ s operation. operation };
+    ghost applied = { λ s operation. operation.front.seen };
 
-    fn absorb_first(
-        &mut self,
-        operation: &Snapshot<H>,
-        _other: &Snapshot<H>,
-    ) -> Result<(), AllocError> {
+    fn absorb_first(&mut self, operation: &Snapshot, _other: &Snapshot) -> Result<(), AllocError> {
         *self = operation.share()?;
         Ok(())
     }

@@ -1,17 +1,16 @@
 use Rattle.std.proofs.Common.{sym, ◌∙◌, ap}
-use Rattle.snapshot_hub.specs.Histories.{MayFollow}
 use Rattle.snapshot_hub.proofs.Adding.{adds_moves}
 use Rattle.snapshot_hub.proofs.front.Front.add.Goals as goal
 
 pub compare_exchange-found-requires : goal.compare_exchange-found-requires
-compare_exchange-found-requires g c =
-    let h = c.args.book.now.head_is in
+compare_exchange-found-requires c =
+    let self = c.args.self.now in
+    let h = c.requires.head in
     let offer = c.plain-offer.ensures in
-    let pen = c.no_pen-pen.ensures in
-    let may : MayFollow c.self.inside.seen.log c.args.instance.now = rw c.self.view_is c.requires.rising in (
+    let pen = c.no_pen-pen.ensures in (
       ap (λ w. w.tracked) h,
-      c.self.invariant.1 ∙ sym (ap (λ w. w.book) h),
-      pen.0 ∙ (c.self.invariant.1 ∙ sym (ap (λ w. w.book) h)),
+      sym (ap (λ w. w.book) h),
+      pen.0 ∙ sym (ap (λ w. w.book) h),
       offer.0,
-      rw (ap (λ w. w.key) h, pen.1, offer.1, offer.3) (adds_moves c.self.inside.seen.log c.args.instance.now c.self.inside.count (sym c.self.invariant.0) may),
+      rw (ap (λ w. w.key) h, pen.1, offer.1, offer.3) (adds_moves self.seen.log c.args.instance.now self.count (sym self.counted) c.requires.rising),
     )
