@@ -1,11 +1,11 @@
 -- The longer of two beginnings of one history.
-use Rattle.std.proofs.Common.{◌≡◌, ◌<◌, List, length, nat_lt, Bool, true, false, if◌then◌else◌, sym, arith}
+use Rattle.std.proofs.Common.{◌≡◌, List, length, nat_lt, Bool, true, false, if◌then◌else◌, sym, arith}
 use Rattle.std.proofs.lemmas.Bool.Decides.{nat_tests}
 use mathlib.Core.List.{IsPrefix}
 use Rattle.carousel_cid.specs.Instances.{Shown}
-use Rattle.snapshot_hub.specs.Histories.{IsRising, height, longer, newer}
+use Rattle.snapshot_hub.specs.Histories.{IsRising, longer, newer}
 use Rattle.snapshot_hub.specs.Inner.Kept.{BeginOne}
-use Rattle.snapshot_hub.proofs.Rising.{newer_longer, rising_prefix, height_grows}
+use Rattle.snapshot_hub.proofs.Rising.{newer_longer, rising_prefix}
 use Rattle.snapshot_hub.proofs.Prefixes.{prefix_shorter, prefix_self}
 use Rattle.snapshot_hub.proofs.Known.{both_begin_longer}
 

@@ -2,6 +2,6 @@
 use Rattle.std.proofs.Common.{◌≡◌, List, [], ◌∷◌, ◌++◌, refl}
 use Rattle.std.specs.Prelude.{fold}
 
-pub last_stands : {A : Type 0} (s : A) (xs : List A) (x : A) → fold (λ (y z : A). z) s (xs ++ x ∷ []) ≡ x
-last_stands s [] x = refl
-last_stands s (y ∷ xs) x = last_stands y xs x
+pub last_stands : {A B : Type 0} (f : B → A) (s : A) (xs : List B) (x : B) → fold (λ (_ : A) (y : B). f y) s (xs ++ x ∷ []) ≡ f x
+last_stands f s [] x = refl
+last_stands f s (y ∷ xs) x = last_stands f (f y) xs x

@@ -5,10 +5,12 @@ mod front;
 pub mod laws;
 mod look;
 mod naming;
+mod publisher;
 mod rule;
 mod snapshot;
 mod told;
 
 pub use look::{Glance, Look};
 pub use naming::Naming;
+pub use publisher::Publisher;
 pub use told::Told;
