@@ -1,3 +1,4 @@
 pub mod Histories
+pub mod Hubs
 pub mod Machine
 pub mod Inner

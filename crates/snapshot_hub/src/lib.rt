@@ -2,6 +2,7 @@
 #![tactic(auto)]
 
 mod front;
+mod hub;
 pub mod laws;
 mod look;
 mod naming;
@@ -10,6 +11,7 @@ mod rule;
 mod snapshot;
 mod told;
 
+pub use hub::{Hub, make};
 pub use look::{Glance, Look};
 pub use naming::Naming;
 pub use publisher::Publisher;
