@@ -9,6 +9,8 @@ mod naming;
 mod publisher;
 mod rule;
 mod snapshot;
+#[cfg(test)]
+mod tests;
 mod told;
 
 pub use hub::{Hub, make};
