@@ -1,9 +1,10 @@
 //! Beginnings of a hub's history.
 ghost use Rattle.std.specs.Prelude.{◌≡◌, ◌+◌, ◌<◌, ◌^◌, ◌++◌, ◌∷◌, [], length, nat_lt, IsTrue};
+ghost use mathlib.Core.List.{IsPrefix};
 ghost use Rattle.snapshot_hub.specs.Histories.{IsRising, MayFollow};
 ghost use Rattle.snapshot_hub.specs.Inner.Kept.{BeginOne, count_of};
 
-use crate::rule::{Add, Law, Nothing};
+use crate::rule::{Add, Find, Law, Nothing};
 use carousel_cid::Instance;
 use logbook::{Offer, Seen, Word};
 
@@ -44,6 +45,19 @@ impl Front {
         let mut both = self.seen.again();
         both.learn(&other.seen);
         self.count < other.count
+    }
+
+    /// Says whether this front has the whole history, which the other then begins.
+    #[tactic(auto, using(crate::proofs::Prefixes::prefix_of_whole))]
+    pub fn is_whole_beside(&self, head: &Word<Instance, u64, Law>, other: &Front) -> bool
+        requires head { head.now ≡ count_of self.now.seen.book }
+        requires book { other.now.seen.book ≡ self.now.seen.book }
+        ensures { IsTrue result → IsPrefix other.now.seen.log self.now.seen.log }
+    {
+        let mut both = self.seen.again();
+        both.learn(&other.seen);
+        let mut offer: Offer<Instance, u64, Law, Nothing> = both.plain::<Nothing, u64, Find>(&0);
+        head.load::<Find, Nothing>(&mut both, &mut offer) == self.count
     }
 
     /// Adds an instance to all that was seen, and says whether it did. It did not where the history is longer.

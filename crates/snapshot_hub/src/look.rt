@@ -3,6 +3,7 @@ ghost use Rattle.std.specs.Prelude.{◌≡◌, ◌≤◌, [], option_map};
 ghost use mathlib.Core.List.{IsPrefix};
 ghost use Rattle.snapshot_hub.specs.Histories.{IsRising, height, last_of, longer, newer};
 
+use crate::front::Front;
 use crate::naming::{Naming, Of};
 use crate::snapshot::Snapshot;
 use crate::told::Told;
@@ -52,6 +53,13 @@ impl<H: Naming> Look<H> {
         ensures { result ≡ [] }
     {
         Look { reader, seen }
+    }
+
+    pub(crate) fn front(&self) -> &Front
+        ensures log { result.now.seen.log ≡ self.now }
+        ensures book { result.now.seen.book ≡ H.book }
+    {
+        &self.seen.front
     }
 
     /// Shows the last instance of what is published, or of what the reader saw before, where that is longer or the
@@ -109,6 +117,7 @@ impl<H: Naming> Glance<H> {
     pub fn leave(self) -> Look<H>
         ensures { result ≡ self }
     {
-        self.look
+        let Glance { look } = self;
+        look
     }
 }

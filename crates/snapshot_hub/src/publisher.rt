@@ -1,9 +1,11 @@
 //! The one publisher of a hub.
-ghost use Rattle.std.specs.Prelude.{◌≡◌, ◌++◌, ◌∷◌, ◌-◌, ◌<◌, ◌^◌, [], length, OnOk, OnErr, IfOk, IfErr};
+ghost use Rattle.std.specs.Prelude.{◌≡◌, ◌++◌, ◌∷◌, ◌-◌, ◌<◌, ◌^◌, [], length, OnOk, OnErr, IfOk, IfErr, IsTrue};
+ghost use mathlib.Core.List.{IsPrefix};
 ghost use Rattle.std.specs.Arc.{arc_value};
 ghost use Rattle.snapshot_hub.specs.Histories.{MayFollow};
 ghost use Rattle.snapshot_hub.specs.Inner.Kept.{count_of};
 
+use crate::look::Look;
 use crate::naming::{Naming, Of};
 use crate::rule::Law;
 use crate::snapshot::Snapshot;
@@ -26,7 +28,7 @@ pub struct Publisher<H: Naming> {
 }
 
 impl<H: Naming> Model for Publisher<H> {
-    ghost use Rattle.std.specs.Prelude.{◌≡◌, List, MatchOption};
+    ghost use Rattle.std.specs.Prelude.{◌≡◌, List, IsSomeAnd};
     ghost use Rattle.carousel_cid.specs.Instances.{Shown};
     ghost use Rattle.snapshot_hub.specs.Inner.Kept.{count_of};
 
@@ -34,7 +36,7 @@ impl<H: Naming> Model for Publisher<H> {
 
     ghost view = { λ p. p.own.front.seen.log };
 
-    ghost invariant = { λ p. (p.own.front.seen.book ≡ H.book) × (p.head ≡ count_of H.book) × MatchOption p.writer ⊥ (λ w. w.desk.shown.value.front.seen ≡ p.own.front.seen) };
+    ghost invariant = { λ p. (p.own.front.seen.book ≡ H.book) × (p.head ≡ count_of H.book) × IsSomeAnd p.writer (λ w. w.desk.shown.value.front.seen ≡ p.own.front.seen) };
 }
 
 impl<H: Naming> Publisher<H> {
@@ -122,6 +124,14 @@ impl<H: Naming> Publisher<H> {
         ensures { IfOk result (λ t. t ≡ self.now) }
     {
         Ok(Told::new(self.own.share()?))
+    }
+
+    /// Says whether what the reader has seen begins this history. It does, but where a publish was refused after the
+    /// log had its instance. It takes no memory and waits for nobody.
+    pub fn has_published(&self, look: &Look<H>) -> bool
+        ensures { IsTrue result → IsPrefix look.now self.now }
+    {
+        self.own.front.is_whole_beside(&self.head, look.front())
     }
 
     /// Ends the hub: from then on a look shows what the reader had seen. It may wait for a reader to leave.

@@ -49,3 +49,20 @@ impl Plain<Instance, Instance, u64> for Add {
 
     ghost state = { λ instance. None };
 }
+
+/// The step that looks at the count.
+pub struct Find;
+
+impl Play<Instance, u64> for Find {
+    ghost use Rattle.snapshot_hub.specs.Inner.Kept.{Finds};
+
+    ghost then = { Finds };
+}
+
+impl Plain<u64, Instance, u64> for Find {
+    ghost use Rattle.std.specs.Prelude.{[], None};
+
+    ghost ask = { λ n. record { number = n; descriptor_toi = 0; listed = []; files = [] } };
+
+    ghost state = { λ n. None };
+}

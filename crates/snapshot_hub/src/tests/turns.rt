@@ -38,8 +38,9 @@ fn look_in_turn<H: Naming, R: Wait + Abort>(
             .instance()
             .is_some_and(|instance| instance.number == 4 && is_whole(instance))
     );
-    let (_look, number) = seen(glance.leave());
+    let (look, number) = seen(glance.leave());
     assert_eq!(rt; number, Some(9));
+    assert!(rt; publisher.has_published(&look));
     Ok(())
 }
 
