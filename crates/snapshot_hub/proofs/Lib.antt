@@ -5,3 +5,4 @@ pub mod Known
 pub mod Adding
 pub mod Longer
 pub mod Overtaking
+pub mod Public

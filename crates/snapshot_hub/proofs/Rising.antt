@@ -28,10 +28,6 @@ last_or-get o (i ∷ (j ∷ h)) d some =
 height_last : (h : List Shown) (d : Shown) → 0 < length h → height h ≡ (get_or h (length h - 1) d).number + 1
 height_last h d some = ap one_above (last_or-get None h d some)
 
-height_empty : (h : List Shown) → length h ≡ 0 → height h ≡ 0
-height_empty [] none = refl
-height_empty (i ∷ h) none = absurd (omega arith)
-
 pub rising_empty : IsRising []
 rising_empty i j d le less = absurd (omega arith)
 
