@@ -1,19 +1,31 @@
 -- What a run leaves at each status, from what the call inside it leaves by its answer.
 use Rattle.std.proofs.Common.{◌≡◌, ℕ, Bool, true, false, List, ◌++◌, ◌∙◌, refl, sym, ap, subst, Option, Some, inl, inr}
-use Rattle.std.specs.Prelude.{◌≢◌, ◌⊎◌, Result, Ok, Err, IfOk, OnErr}
+use Rattle.std.specs.Prelude.{◌≢◌, ◌⊎◌, Result, Ok, Err, IfOk, OnErr, option_and_then}
 use Rattle.std.proofs.lemmas.List.{append-nil}
 use Rattle.edge_io.specs.Shelved.{Shelved}
 use Rattle.edge_io.specs.ShelfCalls.{Call, after}
 use Rattle.fcast_run.specs.declared.settings.Settings.{Settings}
 use Rattle.fcast_run.specs.declared.fault.Fault.{Fault}
+use Rattle.fcast_run.specs.declared.task.Task.{Task}
+use Rattle.fcast_run.specs.declared.task.Task.TheVariants as tasks
+use Rattle.fcast_run.specs.Commands.{replay_in, dump_in, replay_of, dump_of}
 use Rattle.fcast_run.specs.declared.fault.Fault.TheVariants.{Datagrams, Text, Shelf, Memory}
 use Rattle.fcast_run.specs.Endings.{is_base, is_apart, is_at_end, IsDone, WritesPart}
 use Rattle.fcast_run.specs.Inner.Answers.{status_of, status_of_answer, Blames, LeavesText, LeavesShelf}
 use Rattle.fcast_run.proofs.Installing.{part_all}
 
--- what holds of these settings holds of those that the words are
-pub for_settings : (P : Settings → Type 0) (o : Option Settings) (a : Settings) → Some a ≡ o → P a → (c : Settings) → o ≡ Some c → P c
-for_settings P o a is holds c words = subst P (let e : Some a ≡ Some c = is ∙ words in let h : a ≡ c = cc in h) holds
+-- what holds of this value holds of the one that the words have
+pub for_value : {A : Type 0} (P : A → Type 0) (o : Option A) (a : A) → Some a ≡ o → P a → (c : A) → o ≡ Some c → P c
+for_value P o a is holds c words = subst P (let e : Some a ≡ Some c = is ∙ words in let h : a ≡ c = cc in h) holds
+
+-- the words are the replay or the dump that was read of them
+pub replay_is : (read : Option Task) (task : Task) (settings : Settings) (words : List (List ℕ)) → read ≡ Some task → task ≡ tasks.Replay settings
+    → option_and_then replay_in read ≡ replay_of words → Some settings ≡ replay_of words
+replay_is read task settings words some is of = sym (ap (option_and_then replay_in) (some ∙ ap Some is)) ∙ of
+
+pub dump_is : (read : Option Task) (task : Task) (most : ℕ) (words : List (List ℕ)) → read ≡ Some task → task ≡ tasks.Dump most
+    → option_and_then dump_in read ≡ dump_of words → Some most ≡ dump_of words
+dump_is read task most words some is of = sym (ap (option_and_then dump_in) (some ∙ ap Some is)) ∙ of
 
 other_status : (p : ℕ → Bool) (s n : ℕ) → p s ≡ true → p n ≡ false → s ≢ n
 other_status p s n passes fails e = absurd (let both : true ≡ false = sym passes ∙ (ap p e ∙ fails) in cc)

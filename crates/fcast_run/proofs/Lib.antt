@@ -1,4 +1,5 @@
 pub mod Answered
+pub mod Dumping
 pub mod Headline
 pub mod Installing
 pub mod Lists

@@ -12,12 +12,12 @@ use Rattle.fcast_words.specs.Words.{value_of, place_of, source_of, command_with,
 use Rattle.fcast_words.specs.declared.command.Command.{Command}
 use Rattle.fcast_words.specs.declared.command_word.CommandWord.{CommandWord}
 use Rattle.fcast_words.specs.declared.command_word.CommandWord.TheVariants as word
-use Rattle.fcast_run.specs.Commands.{settings_of, replay_of}
+use Rattle.fcast_run.specs.Commands.{task_of, replay_in, replay_of}
 use Rattle.fcast_run.specs.Inner.Ranges.{IfInRange}
 
 -- a command's settings are in their ranges, where it has some
 abbrev IsFit : Command → Type 0
-IsFit c = IfInRange (settings_of c)
+IsFit c = IfInRange (option_and_then replay_in (task_of c))
 
 abbrev IfFit : Option Command → Type 0
 IfFit None = Unit {0}
@@ -91,7 +91,7 @@ fits : (words : List (List ℕ)) → IfFit (command_of words)
 fits [] = tt
 fits (name ∷ words) = then_fit _ (command_named name) (λ word _. then_fit _ (map_of (options_of word) words) (λ ps _. command_fits word ps))
 
-of_command : (o : Option Command) → IfFit o → IfInRange (option_and_then settings_of o)
+of_command : (o : Option Command) → IfFit o → IfInRange (option_and_then replay_in (option_and_then task_of o))
 of_command None fit = tt
 of_command (Some c) fit = fit
 

@@ -1,32 +1,41 @@
 -- The commands that a run does so far.
-use Rattle.std.specs.Prelude.{Bool, true, false, ℕ, List, Option, Some, None, option_and_then}
-use Rattle.std.specs.Option.{option_map_or}
+use Rattle.std.specs.Prelude.{Bool, ℕ, List, Option, Some, None, option_and_then, is_some}
 use Rattle.fcast_words.specs.Words.{command_of}
 use Rattle.fcast_words.specs.declared.command.Command.{Command}
 use Rattle.fcast_words.specs.declared.command.Command.TheVariants.{Replay, Recv, Send, Dump, Drill, Listen}
 use Rattle.fcast_run.specs.declared.settings.Settings.{Settings}
+use Rattle.fcast_run.specs.declared.task.Task.{Task}
+use Rattle.fcast_run.specs.declared.task.Task.TheVariants as tasks
 
--- the command is built
-abbrev pub is_built : Command → Bool
-is_built (Replay tsi budget most) = true
-is_built (Recv tsi budget addr port count) = false
-is_built (Send catalog addr port symbol block maxn cycles tsi) = false
-is_built (Dump most) = false
-is_built (Drill start) = false
-is_built (Listen tsi budget most addr port count readers) = false
+-- what a command is to do, where it is built
+abbrev pub task_of : Command → Option Task
+task_of (Replay tsi budget most) = Some (tasks.Replay (record { tsi = tsi; budget = budget; most = most }))
+task_of (Recv tsi budget addr port count) = None
+task_of (Send catalog addr port symbol block maxn cycles tsi) = None
+task_of (Dump most) = Some (tasks.Dump most)
+task_of (Drill start) = None
+task_of (Listen tsi budget most addr port count readers) = None
+
+-- what the words are to do
+abbrev pub task_in : List (List ℕ) → Option Task
+task_in words = option_and_then task_of (command_of words)
 
 -- the words are a command that is built
 abbrev pub is_command : List (List ℕ) → Bool
-is_command words = option_map_or is_built (command_of words) false
+is_command words = is_some (task_in words)
 
-abbrev pub settings_of : Command → Option Settings
-settings_of (Replay tsi budget most) = Some (record { tsi = tsi; budget = budget; most = most })
-settings_of (Recv tsi budget addr port count) = None
-settings_of (Send catalog addr port symbol block maxn cycles tsi) = None
-settings_of (Dump most) = None
-settings_of (Drill start) = None
-settings_of (Listen tsi budget most addr port count readers) = None
+abbrev pub replay_in : Task → Option Settings
+replay_in (tasks.Replay settings) = Some settings
+replay_in (tasks.Dump most) = None
+
+abbrev pub dump_in : Task → Option ℕ
+dump_in (tasks.Replay settings) = None
+dump_in (tasks.Dump most) = Some most
 
 -- the settings of the replay that the words are, where they are one
 abbrev pub replay_of : List (List ℕ) → Option Settings
-replay_of words = option_and_then settings_of (command_of words)
+replay_of words = option_and_then replay_in (task_in words)
+
+-- how many datagrams the dump takes that the words are, where they are one
+abbrev pub dump_of : List (List ℕ) → Option ℕ
+dump_of words = option_and_then dump_in (task_in words)

@@ -2,5 +2,6 @@ pub mod Texts
 pub mod Commands
 pub mod Outcome
 pub mod Endings
+pub mod Dump
 pub mod Headline
 pub mod Inner

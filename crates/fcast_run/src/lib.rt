@@ -3,6 +3,8 @@
 
 mod command;
 mod conclude;
+mod dump;
+mod dump_line;
 mod edge;
 mod ending;
 mod fault;
@@ -12,6 +14,7 @@ mod report;
 mod settings;
 mod shelve;
 mod take;
+mod task;
 mod tell;
 mod top_call;
 

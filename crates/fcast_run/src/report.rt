@@ -41,7 +41,8 @@ fn push_over(alloc: Global, text: &mut String, drops: u64) -> Result<(), AllocEr
     push_number(alloc, text, "over budget ", u128::from(drops))
 }
 
-fn push_ending(alloc: Global, text: &mut String, ending: Ending) -> Result<(), AllocError>
+/// Adds the line that says why the list wasn't read to its end, where it wasn't.
+pub fn push_ending(alloc: Global, text: &mut String, ending: Ending) -> Result<(), AllocError>
     ensures { OnOk result (string_bytes text.new ≡ string_bytes text.old ++ ending_line ending) }
 {
     match ending {

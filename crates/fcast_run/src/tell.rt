@@ -1,5 +1,5 @@
 //! Writing to the text of a run.
-ghost use Rattle.std.specs.Prelude.{◌≡◌, IfOk};
+ghost use Rattle.std.specs.Prelude.{◌≡◌, ◌≤◌, ◌++◌, IfOk, OnOk, OnErr};
 ghost use Rattle.edge_io.specs.Faults.{Rose};
 ghost use Rattle.fcast_run.specs.Texts.{usage_line};
 ghost use Rattle.fcast_run.specs.Inner.Answers.{Blames, LeavesText};
@@ -25,8 +25,20 @@ pub fn tell<T: Text>(text: &mut T, lines: &str, status: u8) -> Result<u8, Fault>
     ensures text { T.told text.old → LeavesText result lines.now (T.written text.old) (T.written text.new) }
     ensures blames { Blames result ⊥ (Rose (T.faults text.old) (T.faults text.new)) ⊥ }
 {
+    write(text, lines)?;
+    Ok(status)
+}
+
+/// Writes the lines to the text in one piece.
+pub fn write<T: Text>(text: &mut T, lines: &str) -> Result<(), Fault>
+    ensures ok { OnOk result (T.told text.old → T.written text.new ≡ T.written text.old ++ lines.now) }
+    ensures err { OnErr result (T.told text.old → T.written text.new ≡ T.written text.old) }
+    ensures told { T.told text.old → T.told text.new }
+    ensures blames { Blames result ⊥ (Rose (T.faults text.old) (T.faults text.new)) ⊥ }
+    ensures grows { T.faults text.old ≤ T.faults text.new }
+{
     match text.write(lines.as_bytes()) {
-        Ok(()) => Ok(status),
+        Ok(()) => Ok(()),
         Err(Trouble::Failed) => Err(Fault::Text),
         Err(Trouble::Memory) => Err(Fault::Memory),
     }

@@ -1,21 +1,24 @@
 //! The top call.
-ghost use Rattle.std.specs.Prelude.{◌≡◌, ◌≢◌, ◌+◌, ◌++◌, ◌⊎◌, true, false, Some, All, drop};
+ghost use Rattle.std.specs.Prelude.{◌≡◌, ◌≢◌, ◌+◌, ◌++◌, ◌⊎◌, ℕ, true, false, Some, None, All, drop};
 ghost use Rattle.edge_io.specs.Faults.{Rose};
 ghost use Rattle.edge_io.specs.ShelfCalls.{after};
 ghost use Rattle.object_store.specs.Session.{Session, IsSession};
 ghost use Rattle.object_store.specs.KeptSet.{drops};
-ghost use Rattle.fcast_run.specs.Commands.{is_command, replay_of};
+ghost use Rattle.fcast_run.specs.Commands.{is_command, replay_of, dump_of};
 ghost use Rattle.fcast_run.specs.Texts.{usage_line};
 ghost use Rattle.fcast_run.specs.Outcome.{replayed, packets_taken};
+ghost use Rattle.fcast_run.specs.Dump.{dumped};
 ghost use Rattle.fcast_run.specs.Endings.{is_status, is_apart, IsDone, WritesPart, AcceptsPart, AcceptsFewer};
 ghost use Rattle.fcast_run.specs.Headline.{IsDatagramOf, InstallsBest};
 ghost use Rattle.fcast_run.specs.Inner.Answers.{status_of_answer};
 ghost use Rattle.fcast_run.specs.declared.settings.Settings.{Settings};
 
-use crate::command::read_command;
+use crate::command::read_task;
+use crate::dump::dump;
 use crate::edge::Edge;
 use crate::fault::Fault;
 use crate::replay::replay;
+use crate::task::Task;
 use crate::tell::tell_usage;
 use edge_io::{Datagrams, Emit, Files, Place, Shelf, Text};
 use meta_text::Label;
@@ -24,13 +27,14 @@ use watch_list::Watch;
 
 /// Does what the words say, and answers the status.
 ///
-/// So far the one command is `replay`. It takes the datagrams of the log, but no more than `--most`, keeps the packets
+/// So far there are two commands. `replay` takes the datagrams of the log, but no more than `--most`, keeps the packets
 /// of the session `--tsi` within the budget, installs the best instance on the shelf where the list was read to its
-/// end, and writes the report to `text`.
+/// end, and writes the report to `text`. `dump` writes a line for each datagram of the log, but for no more than
+/// `--most`.
 ///
 /// | status | meaning |
 /// |---|---|
-/// | 0 | the list was read to its end, an instance is installed, and no packet was over the budget |
+/// | 0 | the list was read to its end, an instance is installed, and no packet was over the budget; or it was dumped |
 /// | 1 | the words are no command |
 /// | 2 | the list was read to its end, nothing is installed, and no packet was over the budget |
 /// | 3 | the log is torn |
@@ -68,7 +72,7 @@ pub fn run<D: Datagrams, E: Emit, F: Files, S: Shelf, T: Text>(
     ensures report { (c : Settings) → replay_of words.now ≡ Some c → D.told edge.old.datagrams → T.told edge.old.text → IsDone result →
         T.written edge.new.text ≡ T.written edge.old.text ++ (replayed c (D.left edge.old.datagrams) (D.torn edge.old.datagrams)).report }
     ensures usage_text { T.told edge.old.text → result ≡ 1 → T.written edge.new.text ≡ T.written edge.old.text ++ usage_line }
-    ensures text_at_4 { T.told edge.old.text → result ≡ 4 → T.written edge.new.text ≡ T.written edge.old.text }
+    ensures text_at_4 { (c : Settings) → replay_of words.now ≡ Some c → T.told edge.old.text → result ≡ 4 → T.written edge.new.text ≡ T.written edge.old.text }
     ensures text_at_6 { T.told edge.old.text → result ≡ 6 → T.written edge.new.text ≡ T.written edge.old.text }
     ensures text_at_5 { (c : Settings) → replay_of words.now ≡ Some c → D.told edge.old.datagrams → T.told edge.old.text → result ≡ 5 →
         WritesPart (replayed c (D.left edge.old.datagrams) (D.torn edge.old.datagrams)).report (T.written edge.old.text) (T.written edge.new.text) }
@@ -89,7 +93,7 @@ pub fn run<D: Datagrams, E: Emit, F: Files, S: Shelf, T: Text>(
     ensures left { (c : Settings) → replay_of words.now ≡ Some c → D.told edge.old.datagrams → result ≢ 4 → result ≢ 9 →
         D.left edge.new.datagrams ≡ drop (c.most + 1) (D.left edge.old.datagrams) }
     ensures datagrams_left { is_command words.now ≡ false → edge.new.datagrams ≡ edge.old.datagrams }
-    ensures shelf_left { is_command words.now ≡ false → edge.new.shelf ≡ edge.old.shelf }
+    ensures shelf_left { replay_of words.now ≡ None → edge.new.shelf ≡ edge.old.shelf }
     ensures emit { edge.new.emit ≡ edge.old.emit }
     ensures files { edge.new.files ≡ edge.old.files }
     ensures watchers { watchers.new.items ≡ watchers.old.items }
@@ -99,22 +103,45 @@ pub fn run<D: Datagrams, E: Emit, F: Files, S: Shelf, T: Text>(
         → (Rose (T.faults edge.old.text) (T.faults edge.new.text) → ⊥)
         → (Rose (S.faults edge.old.shelf) (S.faults edge.new.shelf) → ⊥)
         → (result ≡ (replayed c (D.left edge.old.datagrams) (D.torn edge.old.datagrams)).status) ⊎ (result ≡ 9) }
+    // A dump: its status, what text gets, where the datagrams were connected and what is left of them.
+    ensures dump_status { (most : ℕ) → dump_of words.now ≡ Some most → D.told edge.old.datagrams → IsDone result
+        → result ≡ (dumped most (D.left edge.old.datagrams) (D.torn edge.old.datagrams)).status }
+    ensures dump_text { (most : ℕ) → dump_of words.now ≡ Some most → D.told edge.old.datagrams → T.told edge.old.text → IsDone result →
+        T.written edge.new.text ≡ T.written edge.old.text ++ (dumped most (D.left edge.old.datagrams) (D.torn edge.old.datagrams)).text }
+    ensures dump_part { (most : ℕ) → dump_of words.now ≡ Some most → D.told edge.old.datagrams → T.told edge.old.text
+        → (result ≡ 4) ⊎ (result ≡ 5) ⊎ (result ≡ 9) →
+        WritesPart (dumped most (D.left edge.old.datagrams) (D.torn edge.old.datagrams)).text (T.written edge.old.text) (T.written edge.new.text) }
+    ensures dump_left { (most : ℕ) → dump_of words.now ≡ Some most → D.told edge.old.datagrams → IsDone result →
+        D.left edge.new.datagrams ≡ drop (most + 1) (D.left edge.old.datagrams) }
+    ensures dump_place { (most : ℕ) → dump_of words.now ≡ Some most → result ≢ 4 → result ≢ 9 → D.connected edge.new.datagrams ≡ Some Place.Log }
+    ensures dump_complete { (most : ℕ) → dump_of words.now ≡ Some most → D.told edge.old.datagrams
+        → (Rose (D.faults edge.old.datagrams) (D.faults edge.new.datagrams) → ⊥)
+        → (Rose (T.faults edge.old.text) (T.faults edge.new.text) → ⊥)
+        → (result ≡ (dumped most (D.left edge.old.datagrams) (D.torn edge.old.datagrams)).status) ⊎ (result ≡ 9) }
 {
     let _ = watchers;
-    let Ok(command) = read_command(alloc, words) else {
+    let Ok(task) = read_task(alloc, words) else {
         return Fault::Memory.status();
     };
-    let Some(settings) = command else {
+    let Some(task) = task else {
         return status_of(tell_usage(&mut edge.text));
     };
-    let done = replay(
-        alloc,
-        &settings,
-        &mut edge.datagrams,
-        &mut edge.shelf,
-        &mut edge.text,
-    );
-    status_of(done)
+    match task {
+        Task::Replay(settings) => {
+            let done = replay(
+                alloc,
+                &settings,
+                &mut edge.datagrams,
+                &mut edge.shelf,
+                &mut edge.text,
+            );
+            status_of(done)
+        }
+        Task::Dump(most) => {
+            let done = dump(alloc, most, &mut edge.datagrams, &mut edge.text);
+            status_of(done)
+        }
+    }
 }
 
 /// The status of a run that came to its end, or was stopped by a fault.

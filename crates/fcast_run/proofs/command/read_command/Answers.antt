@@ -1,9 +1,0 @@
-use Rattle.std.proofs.Common.{◌∙◌, sym, ap, subst}
-use Rattle.std.specs.Prelude.{option_and_then}
-use Rattle.fcast_run.specs.Commands.{settings_of}
-use Rattle.fcast_run.specs.Inner.Ranges.{IfInRange}
-use Rattle.fcast_run.proofs.Ranges.{replay_in_range}
-use Rattle.fcast_run.proofs.command.read_command.Goals as goal
-
-pub returns-in-Ok-clause-ranges : goal.returns-in-Ok-clause-ranges
-returns-in-Ok-clause-ranges c = subst IfInRange (ap (option_and_then settings_of) c.in-Ok.ensures.ok ∙ sym c.settings_of.ensures) (replay_in_range c.args.words.now)
