@@ -2,3 +2,5 @@ mod Numbers
 mod Fields
 mod Cuts
 mod Causes
+mod Continued
+mod BadLines

@@ -1,9 +1,12 @@
 //! What a sender sends: instances, and the files of each.
 
-ghost use Rattle.std.specs.Prelude.{◌≡◌, ◌≤◌, length};
+ghost use Rattle.std.specs.Prelude.{◌≡◌, ◌≤◌, ◌++◌, ◌∷◌, [], length, IfOk, OnOk, OnErr};
 ghost use Rattle.sender_plan.specs.CatalogInstance.{IsItem, most_instances};
+ghost use Rattle.sender_plan.specs.Names.{names_of};
 
+use crate::names::{labels, name_set};
 use meta_text::Label;
+use std::alloc::AllocError;
 use std::marker::Model;
 
 /// A file of an instance. Its location isn't empty, and its location and its type are values, as `meta_text::is_value`
@@ -59,6 +62,17 @@ impl Model for CatalogInstance {
     ghost view = { λ a. record { number = a.number; items = a.items.items } };
 }
 
+impl CatalogInstance {
+    /// Adds a file at the end. Without memory for it, the instance is as it was.
+    pub fn push(&mut self, item: CatalogItem) -> Result<(), AllocError>
+        ensures ok { OnOk result (self.new ≡ record { number = self.old.number; items = self.old.items ++ item ∷ [] }) }
+        ensures err { OnErr result (self.new ≡ self.old) }
+    {
+        self.items.push(item)?;
+        Ok(())
+    }
+}
+
 /// The instances of a sender, at most 256, in order.
 #[derive(Drop)]
 pub struct Catalog {
@@ -91,5 +105,13 @@ impl Catalog {
         ensures few { length self.now ≤ most_instances }
     {
         self.instances.as_slice()
+    }
+
+    /// The names of the files, each once, in the order of first appearance.
+    pub fn names(&self) -> Result<Vec<Label>, AllocError>
+        ensures { IfOk result (λ names. names.items ≡ names_of self.now) }
+    {
+        let alloc = *self.instances.allocator();
+        labels(alloc, name_set(alloc, self.as_slice())?.as_slice())
     }
 }

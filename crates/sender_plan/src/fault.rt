@@ -2,6 +2,7 @@
 
 ghost use Rattle.std.specs.Prelude.{◌≡◌};
 ghost use Rattle.sender_plan.specs.declared.fault.CatalogFault.TheVariants as catalog;
+ghost use Rattle.sender_plan.specs.declared.fault.PlanFault.TheVariants as plan;
 
 use std::alloc::AllocError;
 
@@ -34,5 +35,28 @@ impl From<AllocError> for CatalogFault {
 
     fn from(_e: AllocError) -> CatalogFault {
         CatalogFault::Memory
+    }
+}
+
+/// Why a catalog isn't planned.
+#[derive(Clone, Copy, Debug, PartialEq, Eq)]
+pub enum PlanFault {
+    /// The number of the instance at this place, counted from 1, isn't above the one before.
+    NumberNotRising { at: u64 },
+    /// The instance at this place, counted from 1, has more than 4,096 files, repeats counted.
+    TooManyFiles { at: u64 },
+    /// The bodies have together more than 268,435,456 bytes: so many.
+    TooLarge { total: u64 },
+    /// The most encoding symbols of a block are fewer than its most source symbols.
+    Params,
+    /// Want of memory.
+    Memory,
+}
+
+impl From<AllocError> for PlanFault {
+    ghost from_gives = { λ _ e. e ≡ plan.Memory };
+
+    fn from(_e: AllocError) -> PlanFault {
+        PlanFault::Memory
     }
 }

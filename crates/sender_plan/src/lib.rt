@@ -4,8 +4,13 @@
 mod catalog;
 mod fault;
 mod line;
+mod names;
+mod params;
+mod reading;
 mod session;
 
 pub use catalog::{Catalog, CatalogInstance, CatalogItem};
-pub use fault::CatalogFault;
+pub use fault::{CatalogFault, PlanFault};
+pub use params::{Params, check};
+pub use reading::read_catalog;
 pub use session::{SentInstance, SentObject, Session};

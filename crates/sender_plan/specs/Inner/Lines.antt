@@ -45,3 +45,9 @@ abbrev pub continued : List CatalogInstance → List Entry → List CatalogInsta
 continued [] entries = instances_of entries
 continued (last ∷ []) entries = record { number = last.number; items = last.items ++ items_before entries } ∷ instances_of entries
 continued (first ∷ more) entries = first ∷ continued more entries
+
+-- a file more in the last instance
+abbrev pub with_item : List CatalogInstance → CatalogItem → List CatalogInstance
+with_item [] item = []
+with_item (last ∷ []) item = record { number = last.number; items = last.items ++ item ∷ [] } ∷ []
+with_item (first ∷ more) item = first ∷ with_item more item
