@@ -4,3 +4,4 @@ mod Cuts
 mod Causes
 mod Continued
 mod BadLines
+mod Sets

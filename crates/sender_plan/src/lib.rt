@@ -3,6 +3,7 @@
 
 mod catalog;
 mod fault;
+mod key;
 mod line;
 mod names;
 mod params;
