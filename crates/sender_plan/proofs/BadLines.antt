@@ -4,8 +4,7 @@ use Rattle.std.specs.Prelude.{OnOk}
 use Rattle.std.specs.List.{flat_map}
 use Rattle.meta_text.specs.Lines.{lines_of}
 use Rattle.wire_bytes.specs.FirstFault.{fault_when, unless_fault}
-use Rattle.wire_bytes.proofs.Public.{none_hold, cause_fails}
-use Rattle.meta_text.specs.Text.{is_clean}
+use Rattle.wire_bytes.proofs.Public.{none_hold}
 use Rattle.sender_plan.specs.CatalogInstance.{CatalogInstance}
 use Rattle.sender_plan.specs.CatalogLine.{Begin, fields_of, is_instance, is_file, causes_of, cause_of, entry_in}
 use Rattle.sender_plan.specs.declared.fault.BadLine.{BadLine}

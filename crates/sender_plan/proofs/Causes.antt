@@ -1,11 +1,11 @@
 -- What is wrong with a line, by its fields; and the item that a good line says.
-use Rattle.std.proofs.Common.{◌≡◌, ℕ, ◌<◌, ◌≤◌, true, false, not, ◌||◌, List, [], ◌∷◌, length, Option, Some, None, Result, Ok, Err, refl, sym, ap, subst, ◌∙◌, arith}
+use Rattle.std.proofs.Common.{◌≡◌, ℕ, true, false, List, ◌∷◌, Option, Some, None, Result, Ok, Err, refl, ap, subst, ◌∙◌}
 use Rattle.std.specs.Prelude.{IfOk, IfErr, option_to_list}
 use Rattle.std.specs.Option.{ForSome}
 use Rattle.std.specs.List.{list_any, AllByRecursion}
 use Rattle.std.specs.Str.{IsUtf8}
 use Rattle.std.proofs.lemmas.Bool.{or_parts}
-use Rattle.wire_bytes.specs.FirstFault.{fault_when, first_fault}
+use Rattle.wire_bytes.specs.FirstFault.{first_fault}
 use Rattle.meta_text.specs.Text.{is_clean, IsValue}
 use Rattle.sender_plan.specs.CatalogInstance.{CatalogItem, IsItem}
 use Rattle.sender_plan.specs.CatalogLine.{fields_of, is_instance, is_file, is_bad_text, causes_of, cause_of}

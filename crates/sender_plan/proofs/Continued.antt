@@ -1,10 +1,9 @@
 -- The instances so far, and the entries behind them.
-use Rattle.std.proofs.Common.{◌≡◌, ℕ, zero, suc, false, ◌+◌, ◌-◌, ◌≤◌, List, [], ◌∷◌, ◌++◌, Option, Some, None, Result, Ok, Err, length, slice_set, slice_index_or, refl, sym, ap, ◌∙◌, append_assoc, append-nil, arith}
-use Rattle.std.specs.Prelude.{OnOk, option_to_list}
-use Rattle.std.specs.List.{flat_map}
+use Rattle.std.proofs.Common.{◌≡◌, ℕ, zero, suc, false, ◌+◌, ◌≤◌, List, [], ◌∷◌, ◌++◌, Some, Result, Ok, Err, length, slice_set, slice_index_or, refl, ap, ◌∙◌, append_assoc, append-nil, arith}
+use Rattle.std.specs.Prelude.{OnOk}
 use Rattle.sender_plan.specs.CatalogInstance.{CatalogItem, CatalogInstance}
 use Rattle.sender_plan.specs.CatalogLine.{Entry, Begin, Item, fields_of, entry_in}
-use Rattle.sender_plan.specs.Catalog.{is_passed_over, said, items_before, instances_of}
+use Rattle.sender_plan.specs.Catalog.{is_passed_over, said}
 use Rattle.sender_plan.specs.Inner.Lines.{continued, with_item}
 
 pub continued_end : (instances : List CatalogInstance) → continued instances [] ≡ instances

@@ -1,13 +1,13 @@
 -- The fields of a line.
-use Rattle.std.proofs.Common.{◌≡◌, ℕ, ◌+◌, ◌<◌, ◌≤◌, Bool, true, false, not, ◌||◌, ◌==◌, ◌&&◌, cond, eqb, List, [], ◌∷◌, length, refl, sym, ap, ◌∙◌, arith, reverse}
-use Rattle.std.specs.List.{slice_split, onto_first, list_all, AllByRecursion}
+use Rattle.std.proofs.Common.{◌≡◌, ℕ, ◌<◌, Bool, true, false, not, ◌||◌, ◌==◌, ◌&&◌, cond, List, [], ◌∷◌, length, refl, sym, ap, ◌∙◌, arith, reverse}
+use Rattle.std.specs.List.{onto_first, list_all, AllByRecursion}
 use Rattle.std.specs.Str.{IsUtf8, is_utf8, bytes_eq}
 use Rattle.std.proofs.lemmas.Bool.{and_parts, or_parts, false_from_ne_true}
 use Rattle.std.proofs.lemmas.List.{reverse-reverse}
 use Rattle.std.proofs.lemmas.List.Splits.{length-slice_split}
 use Rattle.std.proofs.lemmas.Slice.Eq.{bytes_eq-Decides}
 use Rattle.std.proofs.lemmas.Str.{is_utf8-from_IsUtf8, IsUtf8-from_is_utf8}
-use Rattle.meta_text.specs.Text.{is_value_byte, is_clean, is_blank, without_leading, trimmed, IsValue}
+use Rattle.meta_text.specs.Text.{is_value_byte, is_clean, without_leading, trimmed, IsValue}
 use Rattle.meta_text.proofs.Public.{all_reversed}
 use Rattle.sender_plan.specs.CatalogLine.{is_tab, fields_of, instance_word, file_word, is_instance, is_file, begins_with_space, is_bad_text}
 use Rattle.sender_plan.specs.Inner.Lines.{is_no_tab, IsField}

@@ -1,6 +1,6 @@
 -- What refuses a plan.
-use Rattle.std.specs.Prelude.{◌≡◌, ℕ, ◌+◌, ◌<◌, ◌≤◌, nat_le, nat_lt, Bool, true, false, not, if◌then◌else◌, List, [], ◌∷◌, Option, Some, None, length, option_map}
-use Rattle.wire_bytes.specs.FirstFault.{fault_when, first_fault}
+use Rattle.std.specs.Prelude.{ℕ, ◌+◌, nat_le, nat_lt, Bool, false, if◌then◌else◌, List, [], ◌∷◌, Option, Some, None, length, option_map}
+use Rattle.wire_bytes.specs.FirstFault.{fault_when}
 use Rattle.sender_plan.specs.declared.params.Params.{Params}
 use Rattle.sender_plan.specs.declared.fault.PlanFault.{PlanFault}
 use Rattle.sender_plan.specs.declared.fault.PlanFault.TheVariants.{NumberNotRising, TooManyFiles, TooLarge}

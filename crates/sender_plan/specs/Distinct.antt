@@ -1,5 +1,5 @@
 -- Lists without repeats, where a test says which elements are the same.
-use Rattle.std.specs.Prelude.{ℕ, Bool, not, List, [], ◌∷◌, filter}
+use Rattle.std.specs.Prelude.{Bool, not, List, [], ◌∷◌, filter}
 
 -- each element at its first place alone
 abbrev pub distinct : {X : Type 0} → (X → X → Bool) → List X → List X

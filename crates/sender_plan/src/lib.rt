@@ -3,7 +3,6 @@
 
 mod catalog;
 mod fault;
-mod key;
 mod line;
 mod names;
 mod params;
@@ -15,3 +14,6 @@ pub use fault::{CatalogFault, PlanFault};
 pub use params::{Params, check};
 pub use reading::read_catalog;
 pub use session::{SentInstance, SentObject, Session};
+
+#[cfg(test)]
+mod tests;

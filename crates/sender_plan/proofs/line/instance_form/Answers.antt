@@ -1,5 +1,5 @@
 use Rattle.std.proofs.Common.{◌∷◌, refl, ap, ◌∙◌}
-use Rattle.sender_plan.specs.CatalogLine.{fields_of, instance_word, is_instance, is_file}
+use Rattle.sender_plan.specs.CatalogLine.{fields_of, instance_word, is_instance}
 use Rattle.sender_plan.proofs.Fields.{some_field, no_instance, no_file}
 use Rattle.sender_plan.proofs.line.instance_form.Goals as goal
 

@@ -1,4 +1,4 @@
-use Rattle.std.proofs.Common.{◌∷◌, [], sym, ap, subst, ◌∙◌, List, ℕ}
+use Rattle.std.proofs.Common.{◌∷◌, [], sym, ap, subst, ◌∙◌}
 use Rattle.std.specs.List.{AllByRecursion}
 use Rattle.sender_plan.specs.CatalogLine.{fields_of, instance_word, file_word, is_instance, is_file}
 use Rattle.sender_plan.specs.Inner.Lines.{texts_of, IsField}
@@ -13,7 +13,7 @@ pub read_file-requires : goal.read_file-requires
 read_file-requires c =
     let same = ap fields_of (sym c.in-Some.ensures.text) ∙ (rw c.in-Some-File.field-0-is at c.in-Some-File.ensures) in
     let are : AllByRecursion IsField (file_word ∷ texts_of c.in-Some-File.file) =
-        subst (AllByRecursion IsField) same (are_fields c.args.line.now (clean_bytes c.args.line.now c.in-Some.ensures.clean)) in
+    subst (AllByRecursion IsField) same (are_fields c.args.line.now (clean_bytes c.args.line.now c.in-Some.ensures.clean)) in
     are.1
 
 pub returns-in-Some-Instance-clause-sound : goal.returns-in-Some-Instance-clause-sound

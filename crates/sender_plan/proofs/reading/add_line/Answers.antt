@@ -1,5 +1,5 @@
 use Rattle.std.proofs.Common.{◌≤◌, length, arith, Some, sym, ap, ◌∙◌}
-use Rattle.sender_plan.specs.Inner.Lines.{item_of, entry_of, Follows}
+use Rattle.sender_plan.specs.Inner.Lines.{item_of, entry_of}
 use Rattle.sender_plan.proofs.BadLines.{begun}
 use Rattle.sender_plan.proofs.Continued.{added_begin, added_item}
 use Rattle.sender_plan.proofs.reading.add_line.Goals as goal
