@@ -1,5 +1,6 @@
 -- The first bad line, one line after another.
-use Rattle.std.proofs.Common.{◌≡◌, ℕ, ◌+◌, Bool, true, false, not, ◌||◌, List, [], ◌∷◌, ◌++◌, Option, Some, None, Result, Ok, Err, length, length-append, refl, sym, ap, ◌∙◌, arith}
+use Rattle.std.proofs.Common.{◌≡◌, ℕ, ◌+◌, Bool, true, false, not, ◌||◌, List, [], ◌∷◌, ◌++◌}
+use Rattle.std.proofs.Common.{Option, Some, None, Result, Ok, Err, length, length-append, refl, sym, ap, ◌∙◌, arith}
 use Rattle.std.specs.Prelude.{OnOk}
 use Rattle.std.specs.List.{flat_map}
 use Rattle.meta_text.specs.Lines.{lines_of}
@@ -20,7 +21,8 @@ has_form before line sound =
     by true e = refl
     by false e = absurd cc
 
-instance_by_fields : (fields : List (List ℕ)) (number : ℕ) → entry_in fields ≡ Some (Begin number) → (is_instance fields || is_file fields) ≡ true → is_instance fields ≡ true
+instance_by_fields : (fields : List (List ℕ)) (number : ℕ) → entry_in fields ≡ Some (Begin number) → (is_instance fields || is_file fields) ≡ true
+    → is_instance fields ≡ true
 instance_by_fields [] number says form = absurd cc
 instance_by_fields (word ∷ []) number says form = absurd cc
 instance_by_fields (word ∷ text ∷ []) number says form = by (is_instance (word ∷ text ∷ [])) form
@@ -53,6 +55,7 @@ pub reading_bad : (text : List ℕ) (bad : Option BadLine) (found : BadLine) →
 unfolding reading
 reading_bad text bad found is some = ap (λ b. unless_fault b (instances_of (flat_map said (lines_of text)))) (sym is ∙ some)
 
-pub reading_sound : (text : List ℕ) (bad : Option BadLine) → bad ≡ bad_line 1 0 (lines_of text) → bad ≡ None → reading text ≡ Ok (instances_of (flat_map said (lines_of text)))
+pub reading_sound : (text : List ℕ) (bad : Option BadLine) → bad ≡ bad_line 1 0 (lines_of text) → bad ≡ None
+    → reading text ≡ Ok (instances_of (flat_map said (lines_of text)))
 unfolding reading
 reading_sound text bad is none = ap (λ b. unless_fault b (instances_of (flat_map said (lines_of text)))) (sym is ∙ none)

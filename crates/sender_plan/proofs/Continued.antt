@@ -1,5 +1,6 @@
 -- The instances so far, and the entries behind them.
-use Rattle.std.proofs.Common.{◌≡◌, ℕ, zero, suc, false, ◌+◌, ◌≤◌, List, [], ◌∷◌, ◌++◌, Some, Result, Ok, Err, length, slice_set, slice_index_or, refl, ap, ◌∙◌, append_assoc, append-nil, arith}
+use Rattle.std.proofs.Common.{◌≡◌, ℕ, zero, suc, false, ◌+◌, ◌≤◌, List, [], ◌∷◌, ◌++◌, Some}
+use Rattle.std.proofs.Common.{Result, Ok, Err, length, slice_set, slice_index_or, refl, ap, ◌∙◌, append_assoc, append-nil, arith}
 use Rattle.std.specs.Prelude.{OnOk}
 use Rattle.sender_plan.specs.CatalogInstance.{CatalogItem, CatalogInstance}
 use Rattle.sender_plan.specs.CatalogLine.{Entry, Begin, Item, fields_of, entry_in}

@@ -61,7 +61,8 @@ module _ {X : Type 0} (same : X → X → Bool) where
       by : (t : Bool) → list_any (same x) kept ≡ t → added_all same kept xs ≡ kept ++ filter (others kept) (distinct same xs)
           → added_all same (kept ++ x ∷ []) xs ≡ (kept ++ x ∷ []) ++ filter (others (kept ++ x ∷ [])) (distinct same xs)
           → added_all same (cond t kept (kept ++ x ∷ [])) xs
-          ≡ kept ++ cond (not t) (x ∷ filter (others kept) (filter (λ y. not (same y x)) (distinct same xs))) (filter (others kept) (filter (λ y. not (same y x)) (distinct same xs)))
+          ≡ kept ++ cond (not t) (x ∷ filter (others kept) (filter (λ y. not (same y x)) (distinct same xs)))
+          (filter (others kept) (filter (λ y. not (same y x)) (distinct same xs)))
       by true is here more = here ∙ ap (λ zs. kept ++ zs) (sym (pass_here trans kept x is (distinct same xs)))
       by false is here more =
           more ∙ append_assoc kept (x ∷ []) (filter (others (kept ++ x ∷ [])) (distinct same xs)) ∙ ap (λ zs. kept ++ x ∷ zs) (pass_new kept x (distinct same xs))
@@ -81,10 +82,12 @@ any_shown p [] = refl
 any_shown p (k ∷ keys) = ap (λ t. p k.now || t) (any_shown p keys)
 
 -- references are told apart by what they show
-pub map-added : (keys : List (Bor (List ℕ))) (key : Bor (List ℕ)) → map (λ k. k.now) (added (λ a b. bytes_eq a.now b.now) keys key) ≡ added bytes_eq (map (λ k. k.now) keys) key.now
+pub map-added : (keys : List (Bor (List ℕ))) (key : Bor (List ℕ))
+    → map (λ k. k.now) (added (λ a b. bytes_eq a.now b.now) keys key) ≡ added bytes_eq (map (λ k. k.now) keys) key.now
 map-added keys key = by (list_any (λ k. bytes_eq key.now k.now) keys) (any_shown (bytes_eq key.now) keys)
   where
     by : (t : Bool) → t ≡ list_any (bytes_eq key.now) (map (λ k. k.now) keys)
-        → map (λ k. k.now) (cond t keys (keys ++ key ∷ [])) ≡ cond (list_any (bytes_eq key.now) (map (λ k. k.now) keys)) (map (λ k. k.now) keys) (map (λ k. k.now) keys ++ key.now ∷ [])
+        → map (λ k. k.now) (cond t keys (keys ++ key ∷ [])) ≡ cond (list_any (bytes_eq key.now) (map (λ k. k.now) keys)) (map (λ k. k.now) keys)
+        (map (λ k. k.now) keys ++ key.now ∷ [])
     by true is = rw (sym is) refl
     by false is = rw (sym is) (map-append (λ (k : Bor (List ℕ)). k.now) keys (key ∷ []))

@@ -9,6 +9,7 @@ returns-in-Ok-clause-clean c = sym (clean_by_bytes c.args.line.now c.in-Ok.ensur
 pub returns-in_default-clause-none : goal.returns-in_default-clause-none
 returns-in_default-clause-none c =
     elim c.in_default.branch [
-      | in_default-via-in-Ok+else-has_value_bytes w ↦ sym (clean_by_bytes c.args.line.now w.in-Ok.ensures.cases.1) ∙ sym w.has_value_bytes.ensures ∙ w.if-has_value_bytes.false
+      | in_default-via-in-Ok+else-has_value_bytes w ↦ sym (clean_by_bytes c.args.line.now w.in-Ok.ensures.cases.1) ∙ sym w.has_value_bytes.ensures
+          ∙ w.if-has_value_bytes.false
       | in_default-via-in_default w ↦ not_clean c.args.line.now w.in_default.ensures.cases.0
     ]

@@ -16,6 +16,7 @@ loop-item-preserved c =
     let item = c.item-item.result in
     let front : drop i items ≡ item ∷ drop (i + 1) items = drop_more items i item c.loop-item-test.true ∙ ap (λ x. x ∷ drop (i + 1) items) (sym c.item-item.is) in
     let more : map (λ (k : Bor (List ℕ)). k.now) c.insert.new.self.keys ≡ added bytes_eq (map (λ (k : Bor (List ℕ)). k.now) keys) item.name =
-    ap (map (λ (k : Bor (List ℕ)). k.now)) c.in_ok-insert.ensures.keys ∙ map-added keys c.as_str.result ∙ ap (added bytes_eq (map (λ (k : Bor (List ℕ)). k.now) keys)) (c.as_str.ensures ∙ ap (λ (x : CatalogItem). x.name) c.item.view_is) in
+    ap (map (λ (k : Bor (List ℕ)). k.now)) c.in_ok-insert.ensures.keys ∙ map-added keys c.as_str.result
+    ∙ ap (added bytes_eq (map (λ (k : Bor (List ℕ)). k.now) keys)) (c.as_str.ensures ∙ ap (λ (x : CatalogItem). x.name) c.item.view_is) in
     ap (λ ks. added_all bytes_eq ks (item_names (drop (i + 1) items))) more
     ∙ ap (λ (rest : List CatalogItem). added_all bytes_eq (map (λ (k : Bor (List ℕ)). k.now) keys) (item_names rest)) (sym front) ∙ c.loop-item.invariant

@@ -15,8 +15,10 @@ loop-instance-preserved c =
     let instances = c.args.instances.now in
     let keys = map (λ (k : Bor (List ℕ)). k.now) c.loop-instance.set.keys in
     let instance = c.instance-item.result in
-    let front : drop i instances ≡ instance ∷ drop (i + 1) instances = drop_more instances i instance c.loop-instance-test.true ∙ ap (λ x. x ∷ drop (i + 1) instances) (sym c.instance-item.is) in
-    let more = c.in_ok-add_names.ensures ∙ ap (λ items. added_all bytes_eq keys (item_names items)) (c.as_slice.ensures.value ∙ ap (λ (x : CatalogInstance). x.items) c.instance.view_is) in
+    let front : drop i instances ≡ instance ∷ drop (i + 1) instances = drop_more instances i instance c.loop-instance-test.true
+    ∙ ap (λ x. x ∷ drop (i + 1) instances) (sym c.instance-item.is) in
+    let more = c.in_ok-add_names.ensures ∙ ap (λ items. added_all bytes_eq keys (item_names items)) (c.as_slice.ensures.value
+    ∙ ap (λ (x : CatalogInstance). x.items) c.instance.view_is) in
     ap (λ ks. added_all bytes_eq ks (names_in (drop (i + 1) instances))) more
     ∙ sym (added_all-append bytes_eq keys (item_names instance.items) (names_in (drop (i + 1) instances)))
     ∙ ap (λ (rest : List CatalogInstance). added_all bytes_eq keys (names_in rest)) (sym front) ∙ c.loop-instance.invariant

@@ -6,7 +6,8 @@ use Rattle.sender_plan.proofs.reading.add_line.Goals as goal
 
 pub returns-in-Ok-Instance-clause-added : goal.returns-in-Ok-Instance-clause-added
 returns-in-Ok-Instance-clause-added c =
-    added_begin c.args.instances.now.items c.begin.new.instances.items c.args.line.now c.in-Ok-Instance.number c.begin.result (sym c.is_passed_over.ensures ∙ c.if-is_passed_over.false)
+    let passed = sym c.is_passed_over.ensures ∙ c.if-is_passed_over.false in
+    added_begin c.args.instances.now.items c.begin.new.instances.items c.args.line.now c.in-Ok-Instance.number c.begin.result passed
     (c.in-Ok-Instance.ensures.entry ∙ ap (λ said. Some (entry_of said)) c.in-Ok-Instance.field-0-is) c.begin.ensures.ok
 
 pub returns-in-Ok-Instance-clause-begun : goal.returns-in-Ok-Instance-clause-begun
@@ -19,5 +20,6 @@ pub returns-in-Ok-File-clause-added : goal.returns-in-Ok-File-clause-added
 returns-in-Ok-File-clause-added c =
     let follows = rw c.in-Ok-File.field-0-is at c.in-Ok-File.ensures.follows in
     let some : 1 ≤ length c.args.instances.now.items = omega (arith, follows.0) in
-    added_item c.args.instances.now.items c.add_file.new.instances.items c.args.line.now (item_of c.in-Ok-File.file) c.add_file.result (sym c.is_passed_over.ensures ∙ c.if-is_passed_over.false)
+    let passed = sym c.is_passed_over.ensures ∙ c.if-is_passed_over.false in
+    added_item c.args.instances.now.items c.add_file.new.instances.items c.args.line.now (item_of c.in-Ok-File.file) c.add_file.result passed
     (c.in-Ok-File.ensures.entry ∙ ap (λ said. Some (entry_of said)) c.in-Ok-File.field-0-is) some c.add_file.ensures.ok

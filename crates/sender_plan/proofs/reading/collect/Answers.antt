@@ -11,5 +11,6 @@ use Rattle.sender_plan.proofs.reading.collect.Goals as goal
 pub returns-clause-instances : goal.returns-clause-instances
 returns-clause-instances c =
     let instances = c.loop-rest.instances.items in
-    let none : c.loop-rest.rest.now ≡ [] = nil_from_length c.loop-rest.rest.now (eqb-true (length c.loop-rest.rest.now) 0 (sym c.is_empty.ensures ∙ c.loop-rest-test.false)) in
+    let none : c.loop-rest.rest.now ≡ [] = nil_from_length c.loop-rest.rest.now (eqb-true (length c.loop-rest.rest.now) 0 (sym c.is_empty.ensures
+    ∙ c.loop-rest-test.false)) in
     sym (continued_end instances) ∙ ap (λ (rest : List ℕ). continued instances (flat_map said (lines_of rest))) (sym none) ∙ c.loop-rest.invariant.whole

@@ -12,4 +12,7 @@ returns-in_err-instances c =
     record { reading = rw (p.1, p.2, reading_sound c.args.bytes.now c.bad_line.result c.bad_line.ensures c.in_default.is) refl }
 
 pub returns : goal.returns
-returns c = record { reading = reading_sound c.args.bytes.now c.bad_line.result c.bad_line.ensures c.in_default.is ∙ ap (λ v. Ok v) (sym c.in_ok-instances.ensures.instances ∙ sym c.new.ensures) }
+returns c = record {
+  reading = reading_sound c.args.bytes.now c.bad_line.result c.bad_line.ensures c.in_default.is
+      ∙ ap (λ v. Ok v) (sym c.in_ok-instances.ensures.instances ∙ sym c.new.ensures);
+}
