@@ -93,6 +93,15 @@ impl Session {
         self.tsi
     }
 
+    /// The object with this identifier.
+    pub fn object(&self, toi: u128) -> &SentObject
+        requires { HasObject self.now toi }
+        ensures value { object_of self.now toi ≡ Some result.now }
+        ensures session { IsSession self.now }
+    {
+        &self.objects[(toi - 1) as usize]
+    }
+
     /// The instances in order.
     pub fn instances(&self) -> &[SentInstance]
         ensures instances { result.now ≡ self.now.instances }

@@ -1,0 +1,28 @@
+-- The datagram of a place of an object.
+use Rattle.std.specs.Prelude.{ℕ, false, List}
+use Rattle.oti_blocks.specs.Sent.{Sent, block_rows}
+use Rattle.alc_packet.specs.Packet.{SymbolPacket}
+use Rattle.alc_packet.specs.Writing.{written}
+use Rattle.sender_plan.specs.Session.{SentObject}
+use Rattle.sender_schedule.specs.SymbolRow.{symbol_row}
+use Rattle.sender_schedule.specs.declared.place.Place.{Place}
+
+-- the source rows of a block of the object
+abbrev pub rows : SentObject → ℕ → List (List ℕ)
+rows o b = block_rows (record { oti = o.oti; bytes = o.bytes }) b
+
+-- the packet of a place: the symbol of that place, and the flag A not set
+abbrev pub packet : ℕ → SentObject → Place → SymbolPacket
+packet tsi o p = record {
+  tsi = tsi;
+  toi = o.toi;
+  oti = o.oti;
+  sbn = p.block;
+  esi = p.symbol;
+  symbol = symbol_row (rows o p.block) o.oti.symbol p.symbol;
+  close = false;
+}
+
+-- and that packet as it is written
+unfoldable pub datagram : ℕ → SentObject → Place → List ℕ
+datagram tsi o p = written (packet tsi o p)

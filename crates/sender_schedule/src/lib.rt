@@ -1,0 +1,12 @@
+//! The schedule of a session: the datagrams that a sender sends, one after the other (RFC 6968, section 3). An object
+//! goes out symbol by symbol over all its blocks, first the source symbols and then the repair symbols (RFC 5510).
+#![tactic(auto)]
+
+mod cycles;
+mod datagram;
+mod items;
+mod place;
+mod schedule;
+
+pub use place::Place;
+pub use schedule::Schedule;
