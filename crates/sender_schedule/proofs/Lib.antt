@@ -1,2 +1,6 @@
 pub mod Orders
 pub mod Objects
+pub mod Rows
+pub mod SymbolRows
+pub mod Fronts
+pub mod Packets

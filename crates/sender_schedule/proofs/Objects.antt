@@ -6,7 +6,7 @@ use Rattle.std.proofs.lemmas.Grind.{flat_map-append}
 use Rattle.std.proofs.lemmas.List.Elements.{All-append, All-nil}
 use Rattle.sender_plan.specs.Session.{Session, SentObject, SentInstance, HasObject, IsObject, IsInstance, IsSession, objects_of, object_of}
 use Rattle.sender_schedule.specs.Schedule.{all_cycles, object_datagrams, cycle_datagrams, schedule}
-use Rattle.sender_schedule.specs.Inner.Rest.{CanBeSent}
+use Rattle.sender_schedule.specs.Inner.Sending.{CanBeSent}
 
 -- the lists of a list of lists of lists, either way
 flat_map-flat_map : {A B C : Type 0} (f : B → List C) (g : A → List B) (xs : List A) → flat_map f (flat_map g xs) ≡ flat_map (λ x. flat_map f (g x)) xs
@@ -41,8 +41,6 @@ can_be_sent s toi o is has found =
     let object = is.objects (toi - 1) o found in
     record {
       toi = omega (arith, object.toi, has.some, has.within, is.few);
-      sound = object.sound;
-      bytes = object.bytes;
-      long = object.long;
+      sent = record { sound = object.sound; bytes = object.bytes; long = object.long };
       symbol = object.symbol;
     }

@@ -7,9 +7,9 @@ use Rattle.sender_plan.specs.Session.{SentObject}
 use Rattle.sender_schedule.specs.SymbolRow.{symbol_row}
 use Rattle.sender_schedule.specs.declared.place.Place.{Place}
 
--- the source rows of a block of the object
-abbrev pub rows : SentObject → ℕ → List (List ℕ)
-rows o b = block_rows (record { oti = o.oti; bytes = o.bytes }) b
+-- the object by its transmission information and its bytes
+abbrev pub sent_of : SentObject → Sent
+sent_of o = record { oti = o.oti; bytes = o.bytes }
 
 -- the packet of a place: the symbol of that place, and the flag A not set
 abbrev pub packet : ℕ → SentObject → Place → SymbolPacket
@@ -19,7 +19,7 @@ packet tsi o p = record {
   oti = o.oti;
   sbn = p.block;
   esi = p.symbol;
-  symbol = symbol_row (rows o p.block) o.oti.symbol p.symbol;
+  symbol = symbol_row (block_rows (sent_of o) p.block) o.oti.symbol p.symbol;
   close = false;
 }
 

@@ -1,19 +1,25 @@
 //! The datagram of a place.
 
-ghost use Rattle.std.specs.Prelude.{◌≡◌, ◌≤◌, ◌^◌, ◌<◌, OnOk, vec_len};
+ghost use Rattle.std.specs.Prelude.{◌≡◌, ◌≤◌, IfOk, OnOk, replicate, vec_len};
+ghost use Rattle.oti_blocks.specs.Sent.{block_rows};
 ghost use Rattle.sender_schedule.specs.Places.{IsPlace};
-ghost use Rattle.sender_schedule.specs.Datagram.{datagram};
-ghost use Rattle.sender_schedule.specs.Inner.Rest.{CanBeSent};
+ghost use Rattle.sender_schedule.specs.SymbolRow.{symbol_row};
+ghost use Rattle.sender_schedule.specs.Datagram.{sent_of, packet, datagram};
+ghost use Rattle.sender_schedule.specs.Inner.Sending.{CanBeSent};
 
 use crate::place::Place;
+use crate::symbol::symbol_into;
+use crate::weights::WeightRow;
+use alc_packet::{Packet, write};
 use sender_plan::SentObject;
-use std::alloc::AllocError;
+use std::alloc::{AllocError, Global};
 
-/// Leaves in `out` the datagram of a place of an object.
+/// Leaves in `out` the datagram of a place of an object. It takes one buffer, for the symbol.
 pub(crate) fn datagram_into(
     tsi: u32,
     object: &SentObject,
     place: Place,
+    weights: &mut WeightRow,
     out: &mut Vec<u8>,
 ) -> Result<(), AllocError>
     requires object { CanBeSent object.now }
@@ -21,5 +27,40 @@ pub(crate) fn datagram_into(
     ensures ok { OnOk result (out.new.items ≡ datagram tsi object.now place) }
     ensures short { OnOk result (vec_len out.new ≤ 65535) }
 {
-    Err(AllocError)
+    let alloc = *out.allocator();
+    let mut symbol = zeros(alloc, usize::from(object.oti.symbol))?;
+    symbol_into(
+        &object.oti,
+        object.bytes.as_slice(),
+        place,
+        weights,
+        &mut symbol,
+    );
+    *out = write(alloc, &packet(tsi, object, place, symbol.as_slice()))?;
+    Ok(())
+}
+
+/// The packet of a place with its symbol.
+fn packet<'a>(tsi: u32, object: &SentObject, place: Place, symbol: &'a [u8]) -> Packet<'a>
+    requires object { CanBeSent object.now }
+    requires place { IsPlace object.now.oti place }
+    requires symbol { symbol.now ≡ symbol_row (block_rows (sent_of object.now) place.block) object.now.oti.symbol place.symbol }
+    ensures { result ≡ packet tsi object.now place }
+{
+    Packet {
+        tsi: u64::from(tsi),
+        toi: object.toi,
+        oti: object.oti,
+        sbn: place.block,
+        esi: place.symbol,
+        symbol,
+        close: false,
+    }
+}
+
+/// So many zeros.
+fn zeros(alloc: Global, size: usize) -> Result<Vec<u8>, AllocError>
+    ensures { IfOk result (λ v. v.items ≡ replicate size 0) }
+{
+    vec![in alloc; 0u8; size]
 }

@@ -7,6 +7,9 @@ mod datagram;
 mod items;
 mod place;
 mod schedule;
+mod source;
+mod symbol;
+mod weights;
 
 pub use place::Place;
 pub use schedule::Schedule;

@@ -10,6 +10,7 @@ ghost use Rattle.sender_schedule.specs.Inner.Rest.{left_of, IsDue};
 use crate::datagram::datagram_into;
 use crate::items::Items;
 use crate::place::{FIRST, Place, after, first};
+use crate::weights::WeightRow;
 use sender_plan::{SentObject, Session};
 use std::alloc::AllocError;
 use std::marker::Model;
@@ -21,6 +22,7 @@ pub struct Schedule<'a> {
     items: Items<'a>,
     object: Option<&'a SentObject>,
     place: Place,
+    weights: WeightRow,
 }
 
 impl<'a> Model for Schedule<'a> {
@@ -50,6 +52,7 @@ impl<'a> Schedule<'a> {
             items,
             object,
             place: FIRST,
+            weights: WeightRow::new(),
         }
     }
 
@@ -68,7 +71,13 @@ impl<'a> Schedule<'a> {
             return Ok(false);
         };
         let session = self.session;
-        if let Err(error) = datagram_into(session.tsi(), object, self.place, out) {
+        if let Err(error) = datagram_into(
+            session.tsi(),
+            object,
+            self.place,
+            &mut self.weights,
+            out,
+        ) {
             out.clear();
             return Err(error);
         }

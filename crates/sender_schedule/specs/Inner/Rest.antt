@@ -1,12 +1,12 @@
 -- What is left of the schedule from a place on.
-use Rattle.std.specs.Prelude.{◌≡◌, ℕ, ◌+◌, ◌-◌, ◌^◌, ◌<◌, ◌≤◌, List, [], ◌∷◌, ◌++◌, Option, Some, None, map, replicate, length}
+use Rattle.std.specs.Prelude.{◌≡◌, ℕ, ◌+◌, ◌-◌, List, [], ◌∷◌, ◌++◌, Option, Some, None, map, replicate}
 use Rattle.std.specs.List.{flat_map}
-use Rattle.wire_bytes.specs.Bytes.{AreBytes}
-use Rattle.oti_blocks.specs.Partition.{ObjectInformation, IsSound, blocks}
+use Rattle.oti_blocks.specs.Partition.{ObjectInformation, blocks}
 use Rattle.sender_plan.specs.Session.{SentObject, SentInstance}
 use Rattle.sender_schedule.specs.Places.{IsPlace, from_to, symbol_of_each, having, round}
 use Rattle.sender_schedule.specs.Datagram.{datagram}
 use Rattle.sender_schedule.specs.Schedule.{all_cycles}
+use Rattle.sender_schedule.specs.Inner.Sending.{CanBeSent}
 use Rattle.sender_schedule.specs.declared.place.Place.{Place}
 
 -- the cycles left where `done` of those of the first instance are behind
@@ -31,14 +31,6 @@ rest_of o (Some p) = places_from o p
 abbrev pub left_of : ℕ → Option SentObject → Place → List (List ℕ)
 left_of tsi None p = []
 left_of tsi (Some o) p = map (datagram tsi o) (places_from o.oti p)
-
--- what holds of each object of a session
-pub record CanBeSent (o : SentObject) : Type 0 where
-  pub toi : o.toi < 2 ^ 112
-  pub sound : IsSound o.oti
-  pub bytes : AreBytes o.bytes
-  pub long : length o.bytes ≡ o.oti.length
-  pub symbol : o.oti.symbol ≤ 65475
 
 -- the place is one of the object; where there is no object, nothing is left
 abbrev pub IsDue : List ℕ → Option SentObject → Place → Type 0

@@ -1,0 +1,23 @@
+-- The symbol starts within the object, and what is cut from there has its bytes.
+use Rattle.std.proofs.Common.{◌≡◌, ℕ, ◌*◌, ◌^◌, ◌<◌, ◌≤◌, ap, ◌∙◌, subst, arith}
+use Rattle.oti_blocks.specs.Partition.{ObjectInformation, IsSound}
+use Rattle.sender_schedule.proofs.Rows.{starts_within}
+use Rattle.sender_schedule.proofs.source.source_symbol.Goals as goal
+
+-- the start is within the object, and fits
+starts : (c : goal.After-from-size) → (c.args.number * c.from-size.result ≤ c.args.oti.now.length) × (c.args.oti.now.length < 2 ^ 48)
+starts c =
+    let o = c.args.oti.now in
+    let sound : IsSound c.args.oti.now = subst IsSound c.oti.view_is c.oti.invariant in
+    let same : c.args.number * c.from-size.result ≡ c.args.number * o.symbol =
+    ap (λ n. c.args.number * n) (c.from-size.ensures ∙ ap (λ (x : ObjectInformation). x.symbol) c.oti.view_is) in
+    (omega (arith, starts_within o c.args.number sound c.requires.within, same), sound.length_fits)
+
+pub overflow_mul-rest : goal.overflow_mul-rest
+overflow_mul-rest c = let s = starts c in omega (arith, s.0, s.1)
+
+pub slice_bounds-rest-count : goal.slice_bounds-rest-count
+slice_bounds-rest-count c = omega (arith, (starts c).0, c.requires.long)
+
+pub slice_bounds-rest-start : goal.slice_bounds-rest-start
+slice_bounds-rest-start c = omega (arith, (starts c).0, c.requires.long)

@@ -1,0 +1,44 @@
+//! The weights of a block's rows in a repair symbol.
+
+ghost use Rattle.std.specs.Prelude.{◌≡◌, ◌≤◌, ◌<◌};
+ghost use Rattle.std.specs.List.{range_with_len};
+ghost use Rattle.rs_code.specs.Weights.{AreWeights};
+
+use arrayvec::ArrayVec;
+use rs_code::Places;
+
+/// The weights that were made last: those of the rows of a block of `k` source symbols in the encoding symbol
+/// `symbol`. There are none yet where `k` is 0.
+#[derive(Drop)]
+pub(crate) struct WeightRow {
+    pub(crate) k: u8,
+    pub(crate) symbol: u8,
+    pub(crate) weights: ArrayVec<u8, 255>,
+    ghost are: { 1 ≤ k → AreWeights (range_with_len 0 k) symbol weights.items },
+}
+
+impl WeightRow {
+    /// No weights yet.
+    pub(crate) fn new() -> WeightRow {
+        WeightRow {
+            k: 0,
+            symbol: 0,
+            weights: ArrayVec::new(),
+        }
+    }
+
+    /// Makes these weights, unless they are the ones that were made last.
+    pub(crate) fn make(&mut self, k: u8, symbol: u8)
+        requires some { 1 ≤ k }
+        requires symbol { symbol < 255 }
+        ensures k { self.new.k ≡ k }
+        ensures symbol { self.new.symbol ≡ symbol }
+    {
+        if self.k == k && self.symbol == symbol {
+            return;
+        }
+        let mut weights = ArrayVec::new();
+        Places::sources(k).weights(symbol, &mut weights);
+        *self = WeightRow { k, symbol, weights };
+    }
+}
