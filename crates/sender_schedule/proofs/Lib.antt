@@ -4,3 +4,5 @@ pub mod Rows
 pub mod SymbolRows
 pub mod Fronts
 pub mod Packets
+pub mod Once
+pub mod Belonging

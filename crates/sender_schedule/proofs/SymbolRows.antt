@@ -57,3 +57,9 @@ symbol_row_is rows size j bytes le = record {
       subst (IsSymbol (column rows at) j) (sym (get_or-symbol_row rows size j at less))
       (symbol_in_is (column rows at) j (bytes at less) (omega (arith, length-map rows (λ row. get_or row at 0))));
 }
+
+-- the same where the columns are known to be short
+pub symbol_row_of_bytes : (rows : List (List ℕ)) (size j : ℕ) → ((at : ℕ) → at < size → AreBytes (column rows at)) → ((at : ℕ) → length (column rows at) ≤ 255)
+    → IsSymbolRow rows size j (symbol_row rows size j)
+symbol_row_of_bytes rows size j bytes le =
+    symbol_row_is rows size j bytes (let few = le 0 in omega (arith, few, length-map rows (λ row. get_or row 0 0)))

@@ -1,6 +1,8 @@
 pub mod Gives
 pub mod Places
+pub mod Times
 pub mod SymbolRow
 pub mod Datagram
 pub mod Schedule
+pub mod Belonging
 pub mod Inner

@@ -5,6 +5,7 @@
 mod cycles;
 mod datagram;
 mod items;
+pub mod laws;
 mod place;
 mod schedule;
 mod source;

@@ -1,0 +1,76 @@
+-- Each datagram of the schedule spells a packet of the session.
+use Rattle.std.proofs.Common.{◌≡◌, ℕ, ◌+◌, ◌-◌, ◌<◌, ◌≤◌, List, Some, None, length, get_or, refl, sym, ap, ◌∙◌, subst, arith, inl, inr}
+use Rattle.std.specs.Prelude.{All, map, slice_get}
+use Rattle.std.specs.List.{flat_map}
+use Rattle.std.proofs.lemmas.Option.{slice_get_cases}
+use Rattle.std.proofs.lemmas.List.Elements.{All-map}
+use Rattle.wire_bytes.proofs.Public.{filled_whole}
+use Rattle.oti_blocks.specs.Sent.{Sent, block_rows}
+use Rattle.rs_code.specs.SourceRows.{IsSymbolRow, column}
+use Rattle.alc_packet.specs.Packet.{SymbolPacket, full}
+use Rattle.alc_packet.specs.Datagram.{Spells}
+use Rattle.alc_packet.proofs.Public.{written_spells}
+use Rattle.sender_plan.specs.Session.{Session, SentObject, HasObject, IsSession, objects_of, object_of}
+use Rattle.sender_schedule.specs.Places.{IsPlace, places}
+use Rattle.sender_schedule.specs.SymbolRow.{symbol_row}
+use Rattle.sender_schedule.specs.Datagram.{sent_of, packet, datagram}
+use Rattle.sender_schedule.specs.Schedule.{all_cycles, datagrams_of, object_datagrams, schedule}
+use Rattle.sender_schedule.specs.Belonging.{IsSentOf, Belongs}
+use Rattle.sender_schedule.specs.Inner.Sending.{CanBeSent}
+use Rattle.sender_schedule.specs.declared.place.Place.{Place}
+use Rattle.sender_schedule.proofs.Objects.{All-flat_map, all_known, can_be_sent, schedule_by_objects}
+use Rattle.sender_schedule.proofs.Rows.{length-block_rows, few_rows, block_rows_bytes}
+use Rattle.sender_schedule.proofs.SymbolRows.{length-symbol_row, symbol_row_of_bytes}
+use Rattle.sender_schedule.proofs.Packets.{packet_is}
+use Rattle.sender_schedule.proofs.Once.{only}
+
+-- its symbol is that of the place
+symbol_is : (tsi : ℕ) (o : SentObject) (p : Place) → CanBeSent o → IsPlace o.oti p
+    → IsSymbolRow (block_rows (sent_of o) p.block) o.oti.symbol p.symbol (full (packet tsi o p))
+unfolding full
+symbol_is tsi o p can is =
+    let x : Sent = sent_of o in
+    let row = symbol_row (block_rows x p.block) o.oti.symbol p.symbol in
+    let few = few_rows x p.block can.sent is.block in
+    subst (IsSymbolRow (block_rows x p.block) o.oti.symbol p.symbol)
+    (sym (filled_whole o.oti.symbol row (omega (arith, length-symbol_row (block_rows x p.block) o.oti.symbol p.symbol))))
+    (symbol_row_of_bytes (block_rows x p.block) o.oti.symbol p.symbol (λ at less. block_rows_bytes x p.block at can.sent less)
+    (λ at. omega (arith, few, length-block_rows x p.block at)))
+
+-- the datagram of a place belongs to the session
+place_belongs : (s : Session) (toi : ℕ) (o : SentObject) (p : Place) → IsSession s → HasObject s toi → object_of s toi ≡ Some o → IsPlace o.oti p → Belongs s (datagram s.tsi o p)
+unfolding datagram
+place_belongs s toi o p session has found is =
+    let can = can_be_sent s toi o session has found in
+    let toi_is : o.toi ≡ toi = omega (arith, (session.objects (toi - 1) o found).toi, has.some) in
+    record {
+      packet = packet s.tsi o p;
+      spells = written_spells (packet s.tsi o p) (packet_is s.tsi o p session.tsi can is);
+      sent = record {
+        tsi = refl;
+        toi = subst (HasObject s) (sym toi_is) has;
+        object = o;
+        known = subst (λ t. object_of s t ≡ Some o) (sym toi_is) found;
+        information = refl;
+        block = is.block;
+        place = is.symbol;
+        symbol = symbol_is s.tsi o p can is;
+        close = refl;
+      };
+    }
+
+object_belongs : (s : Session) (toi : ℕ) → IsSession s → HasObject s toi → All (Belongs s) (object_datagrams s toi)
+object_belongs s toi session has = elim (slice_get_cases s.objects (toi - 1)).1 [
+  | inl some ↦
+      let o : SentObject = some.0 in
+      let found : object_of s toi ≡ Some o = some.2 in
+      subst (λ x. All (Belongs s) (datagrams_of s.tsi x)) (sym found)
+      (All-map (Belongs s) (datagram s.tsi o) (places o.oti) (λ k d less. place_belongs s toi o (get_or (places o.oti) k d) session has found (only o.oti k d less)))
+  | inr past ↦ absurd (omega (arith, past.0, has.some, has.within))
+]
+
+pub each_belongs : (s : Session) → IsSession s → All (Belongs s) (schedule s)
+each_belongs s session =
+    subst (All (Belongs s)) (schedule_by_objects s)
+    (All-flat_map (Belongs s) (object_datagrams s) (flat_map objects_of (all_cycles s.cycles s.instances))
+    (λ k d less. object_belongs s (get_or (flat_map objects_of (all_cycles s.cycles s.instances)) k d) session (all_known s session k d less)))

@@ -1,0 +1,32 @@
+//! Laws of the schedule. They speak of the definitions alone.
+
+ghost use Rattle.std.specs.Prelude.{◌≡◌, ℕ, ◌≤◌, ◌<◌, List, length, true, All};
+ghost use Rattle.gf256.specs.Polynomial.{AreBytes};
+ghost use Rattle.rs_code.specs.SourceRows.{IsSymbolRow, column};
+ghost use Rattle.oti_blocks.specs.Partition.{ObjectInformation, IsSound};
+ghost use Rattle.carousel_cid.specs.Repeats.{are_different};
+ghost use Rattle.sender_plan.specs.Session.{Session, SentInstance, IsSession, objects_of};
+ghost use Rattle.sender_schedule.specs.declared.place.Place.{Place};
+ghost use Rattle.sender_schedule.specs.Places.{IsPlace, places};
+ghost use Rattle.sender_schedule.specs.Times.{times};
+ghost use Rattle.sender_schedule.specs.SymbolRow.{symbol_row};
+ghost use Rattle.sender_schedule.specs.Schedule.{schedule};
+ghost use Rattle.sender_schedule.specs.Belonging.{Belongs};
+
+/// Each datagram of a session's schedule spells a packet of the session.
+pub fn each_belongs()
+    ensures { (s : Session) → IsSession s → All (Belongs s) (schedule s) }
+{}
+
+/// Among the places of an object, and so in each cycle that has the object, each of its symbols stands exactly once,
+/// and there is no other. The objects of a cycle differ.
+pub fn each_once()
+    ensures once { (o : ObjectInformation) → IsSound o → (p : Place) → IsPlace o p → times p (places o) ≡ 1 }
+    ensures only { (o : ObjectInformation) → All (IsPlace o) (places o) }
+    ensures different { (s : Session) → IsSession s → All (λ i. are_different (objects_of i) ≡ true) s.instances }
+{}
+
+/// The row of a place is its symbol.
+pub fn rows_are_symbols()
+    ensures { (rows : List (List ℕ)) (size j : ℕ) → ((at : ℕ) → at < size → AreBytes (column rows at)) → length rows ≤ 255 → IsSymbolRow rows size j (symbol_row rows size j) }
+{}
