@@ -14,3 +14,6 @@ mod weights;
 
 pub use place::Place;
 pub use schedule::Schedule;
+
+#[cfg(test)]
+mod tests;
