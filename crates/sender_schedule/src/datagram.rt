@@ -1,6 +1,6 @@
 //! The datagram of a place.
 
-ghost use Rattle.std.specs.Prelude.{◌≡◌, ◌≤◌, IfOk, OnOk, replicate, vec_len};
+ghost use Rattle.std.specs.Prelude.{◌≡◌, ◌≤◌, IfOk, OnOk, OnErr, replicate, vec_len};
 ghost use Rattle.oti_blocks.specs.Sent.{block_rows};
 ghost use Rattle.sender_schedule.specs.Places.{IsPlace};
 ghost use Rattle.sender_schedule.specs.SymbolRow.{symbol_row};
@@ -14,7 +14,8 @@ use alc_packet::{Packet, write};
 use sender_plan::SentObject;
 use std::alloc::{AllocError, Global};
 
-/// Leaves in `out` the datagram of a place of an object. It takes one buffer, for the symbol.
+/// Leaves in `out` the datagram of a place of an object. It takes memory for the symbol and for the
+/// datagram, and fails only for want of it; then `out` is as it was.
 pub(crate) fn datagram_into(
     tsi: u32,
     object: &SentObject,
@@ -26,6 +27,7 @@ pub(crate) fn datagram_into(
     requires place { IsPlace object.now.oti place }
     ensures ok { OnOk result (out.new.items ≡ datagram tsi object.now place) }
     ensures short { OnOk result (vec_len out.new ≤ 65535) }
+    ensures err { OnErr result (out.new.items ≡ out.old.items) }
 {
     let alloc = *out.allocator();
     let mut symbol = zeros(alloc, usize::from(object.oti.symbol))?;

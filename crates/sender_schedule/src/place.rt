@@ -22,8 +22,8 @@ pub(crate) const FIRST: Place = Place {
     block: 0,
 };
 
-#[tactic(auto, using(crate::proofs::Orders::first_place, crate::proofs::Orders::all_places))]
 /// The first place of an object is one of its places, and all of them follow from it.
+#[tactic(auto, using(crate::proofs::Orders::first_place, crate::proofs::Orders::all_places))]
 pub(crate) fn first(oti: &Oti)
     ensures place { IsPlace oti.now (record { symbol = 0; block = 0 }) }
     ensures all { places oti.now ≡ places_from oti.now (record { symbol = 0; block = 0 }) }
@@ -31,8 +31,8 @@ pub(crate) fn first(oti: &Oti)
     let _blocks = oti.blocks();
 }
 
-#[tactic(auto, using(crate::proofs::Orders::next_round, crate::proofs::Orders::no_round, crate::proofs::Orders::round_more))]
 /// The place behind this one: of the same number in the next block that has it, or of the next number in block 0.
+#[tactic(auto, using(crate::proofs::Orders::next_round, crate::proofs::Orders::no_round, crate::proofs::Orders::round_more))]
 pub(crate) fn after(oti: &Oti, place: Place) -> Option<Place>
     requires { IsPlace oti.now place }
     ensures rest { places_from oti.now place ≡ place ∷ rest_of oti.now result }

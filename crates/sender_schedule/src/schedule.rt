@@ -40,8 +40,8 @@ impl<'a> Model for Schedule<'a> {
 }
 
 impl<'a> Schedule<'a> {
-    #[tactic(auto, using(crate::proofs::Objects::schedule_by_objects))]
     /// The schedule of a session, at its first datagram.
+    #[tactic(auto, using(crate::proofs::Objects::schedule_by_objects))]
     pub fn new(session: &'a Session) -> Schedule<'a>
         ensures { result ≡ schedule session.now }
     {
@@ -71,16 +71,7 @@ impl<'a> Schedule<'a> {
             return Ok(false);
         };
         let session = self.session;
-        if let Err(error) = datagram_into(
-            session.tsi(),
-            object,
-            self.place,
-            &mut self.weights,
-            out,
-        ) {
-            out.clear();
-            return Err(error);
-        }
+        datagram_into(session.tsi(), object, self.place, &mut self.weights, out)?;
         match after(&object.oti, self.place) {
             Some(place) => self.place = place,
             None => {
@@ -92,8 +83,8 @@ impl<'a> Schedule<'a> {
     }
 }
 
-#[tactic(auto, using(crate::proofs::Objects::can_be_sent))]
 /// The next object that is left, whose symbols are to be sent from the first on.
+#[tactic(auto, using(crate::proofs::Objects::can_be_sent))]
 fn open<'a>(session: &'a Session, items: &mut Items<'a>) -> Option<&'a SentObject>
     requires { All (HasObject session.now) items.old }
     ensures rest { flat_map (object_datagrams session.now) items.old ≡ left_of session.now.tsi (option_map (λ o. o.now) result) (record { symbol = 0; block = 0 }) ++ flat_map (object_datagrams session.now) items.new }
