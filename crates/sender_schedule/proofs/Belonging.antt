@@ -38,7 +38,8 @@ symbol_is tsi o p can is =
     (λ at. omega (arith, few, length-block_rows x p.block at)))
 
 -- the datagram of a place belongs to the session
-place_belongs : (s : Session) (toi : ℕ) (o : SentObject) (p : Place) → IsSession s → HasObject s toi → object_of s toi ≡ Some o → IsPlace o.oti p → Belongs s (datagram s.tsi o p)
+place_belongs : (s : Session) (toi : ℕ) (o : SentObject) (p : Place) → IsSession s → HasObject s toi → object_of s toi ≡ Some o → IsPlace o.oti p
+    → Belongs s (datagram s.tsi o p)
 unfolding datagram
 place_belongs s toi o p session has found is =
     let can = can_be_sent s toi o session has found in

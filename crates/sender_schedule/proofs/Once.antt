@@ -1,5 +1,6 @@
 -- Each place stands once among the places of its object, and nothing else stands there.
-use Rattle.std.proofs.Common.{◌≡◌, ◌≢◌, ℕ, zero, suc, ◌+◌, ◌-◌, ◌<◌, ◌≤◌, Bool, true, false, cond, List, [], ◌∷◌, ◌++◌, map, refl, sym, ap, ap₂, ◌∙◌, arith, subst, inl, inr, get_or, eq-eqb, ne_eqb}
+use Rattle.std.proofs.Common.{◌≡◌, ◌≢◌, ℕ, zero, suc, ◌+◌, ◌-◌, ◌<◌, ◌≤◌, Bool, true, false, cond, List, [], ◌∷◌, ◌++◌, map, refl, sym, ap, ap₂, ◌∙◌, arith, subst, inl, inr}
+use Rattle.std.proofs.Common.{get_or, eq-eqb, ne_eqb}
 use Rattle.std.specs.Prelude.{nat_lt, filter, All}
 use Rattle.std.specs.List.{range_with_len, flat_map}
 use Rattle.std.proofs.lemmas.Bool.{cases_eq, lt-ltb, ltb-true}
@@ -98,5 +99,6 @@ having_from o j a (suc m) within = elim (nat_lt j (encoding_at o a))
 pub only : (o : ObjectInformation) → All (IsPlace o) (places o)
 only o =
     All-flat_map (IsPlace o) (round o) (from_to 0 o.max_n)
-    (λ k d less. All-map (IsPlace o) (λ b. record { symbol = get_or (from_to 0 o.max_n) k d; block = b }) (having o (get_or (from_to 0 o.max_n) k d) (from_to 0 (blocks o)))
+    (λ k d less. All-map (IsPlace o) (λ b. record { symbol = get_or (from_to 0 o.max_n) k d; block = b })
+    (having o (get_or (from_to 0 o.max_n) k d) (from_to 0 (blocks o)))
     (having_from o (get_or (from_to 0 o.max_n) k d) 0 (blocks o - 0) (omega arith)))

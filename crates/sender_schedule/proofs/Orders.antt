@@ -5,7 +5,7 @@ use Rattle.std.specs.List.{range_with_len, flat_map}
 use Rattle.std.proofs.lemmas.Bool.{lt-ltb}
 use Rattle.oti_blocks.specs.Partition.{ObjectInformation, IsSound, blocks, encoding_at}
 use Rattle.oti_blocks.proofs.Public.{blocks_pos, size_bounds, encoding_at_bounds, encoding_falls}
-use Rattle.sender_schedule.specs.Places.{IsPlace, from_to, symbol_of_each, having, round, places}
+use Rattle.sender_schedule.specs.Places.{IsPlace, opening, from_to, symbol_of_each, having, round, places}
 use Rattle.sender_schedule.specs.Inner.Rest.{round_from, places_from}
 use Rattle.sender_schedule.specs.declared.place.Place.{Place}
 
@@ -68,12 +68,12 @@ no_round o p sound is none last =
 
 -- ---- the first place
 
-pub first_place : (o : ObjectInformation) → IsSound o → IsPlace o (record { symbol = 0; block = 0 })
+pub first_place : (o : ObjectInformation) → IsSound o → IsPlace o opening
 first_place o sound =
     let some = blocks_pos o sound in
     let size = size_bounds o sound 0 some in
     let encoding = encoding_at_bounds o sound 0 some in
     record { block = some; symbol = omega (arith, size.0, encoding.0) }
 
-pub all_places : (o : ObjectInformation) → IsSound o → places o ≡ places_from o (record { symbol = 0; block = 0 })
+pub all_places : (o : ObjectInformation) → IsSound o → places o ≡ places_from o opening
 all_places o sound = ap (flat_map (round o)) (from_to_more 0 o.max_n (omega (arith, sound.some_block, sound.block_within)))

@@ -44,7 +44,8 @@ last_zero o p at can block place past within =
     let few = few_rows x p.block can.sent (omega arith) in
     let last = last_source o.oti p.block p.symbol can.sent.sound block place in
     get_or-symbol_row (block_rows (sent_of o) p.block) o.oti.symbol p.symbol at within
-    ∙ symbol_of_source (column (block_rows (sent_of o) p.block) at) p.symbol (block_rows_bytes x p.block at can.sent within) (omega (arith, len, few)) (omega (arith, len, place))
+    ∙ symbol_of_source (column (block_rows (sent_of o) p.block) at) p.symbol (block_rows_bytes x p.block at can.sent within)
+    (omega (arith, len, few)) (omega (arith, len, place))
     ∙ get_or-block_rows (sent_of o) p.block p.symbol at (omega arith) within
     ∙ ap (λ n. get_or o.bytes (n * o.oti.symbol + at) 0) last
     ∙ get_or_past o.bytes ((sources o.oti - 1) * o.oti.symbol + at) 0 (omega (arith, can.sent.long, past_end o.oti at can.sent.sound past))

@@ -50,7 +50,8 @@ get_or-symbol_row rows size j at less =
     get_or-map-range_with_len (λ at. symbol_in (column rows at) j) 0 size at at 0 less is
 
 -- the row is symbol j of the rows
-pub symbol_row_is : (rows : List (List ℕ)) (size j : ℕ) → ((at : ℕ) → at < size → AreBytes (column rows at)) → length rows ≤ 255 → IsSymbolRow rows size j (symbol_row rows size j)
+pub symbol_row_is : (rows : List (List ℕ)) (size j : ℕ) → ((at : ℕ) → at < size → AreBytes (column rows at)) → length rows ≤ 255
+    → IsSymbolRow rows size j (symbol_row rows size j)
 symbol_row_is rows size j bytes le = record {
   full = length-symbol_row rows size j;
   symbols = λ at less.

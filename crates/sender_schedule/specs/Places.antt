@@ -9,6 +9,10 @@ pub record IsPlace (o : ObjectInformation) (p : Place) : Type 0 where
   pub block : p.block < blocks o
   pub symbol : p.symbol < encoding_at o p.block
 
+-- the first place of each object
+abbrev pub opening : Place
+opening = record { symbol = 0; block = 0 }
+
 -- the numbers from a to b, without b
 abbrev pub from_to : ℕ → ℕ → List ℕ
 from_to a b = range_with_len a (b - a)

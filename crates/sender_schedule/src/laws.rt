@@ -28,5 +28,6 @@ pub fn each_once()
 
 /// The row of a place is its symbol.
 pub fn rows_are_symbols()
-    ensures { (rows : List (List ℕ)) (size j : ℕ) → ((at : ℕ) → at < size → AreBytes (column rows at)) → length rows ≤ 255 → IsSymbolRow rows size j (symbol_row rows size j) }
+    ensures { (rows : List (List ℕ)) (size j : ℕ)
+        → ((at : ℕ) → at < size → AreBytes (column rows at)) → length rows ≤ 255 → IsSymbolRow rows size j (symbol_row rows size j) }
 {}

@@ -2,7 +2,7 @@
 
 ghost use Rattle.std.specs.Prelude.{◌≡◌, ◌+◌, ◌≤◌, ◌<◌, ◌^◌, ◌∷◌, IfSome, IsTrue, IsFalse};
 ghost use Rattle.oti_blocks.specs.Partition.{IsSound, blocks, encoding_at};
-ghost use Rattle.sender_schedule.specs.Places.{IsPlace, places};
+ghost use Rattle.sender_schedule.specs.Places.{IsPlace, opening, places};
 ghost use Rattle.sender_schedule.specs.Inner.Rest.{places_from, rest_of};
 
 use oti_blocks::Oti;
@@ -25,8 +25,8 @@ pub(crate) const FIRST: Place = Place {
 /// The first place of an object is one of its places, and all of them follow from it.
 #[tactic(auto, using(crate::proofs::Orders::first_place, crate::proofs::Orders::all_places))]
 pub(crate) fn first(oti: &Oti)
-    ensures place { IsPlace oti.now (record { symbol = 0; block = 0 }) }
-    ensures all { places oti.now ≡ places_from oti.now (record { symbol = 0; block = 0 }) }
+    ensures place { IsPlace oti.now opening }
+    ensures all { places oti.now ≡ places_from oti.now opening }
 {
     let _blocks = oti.blocks();
 }

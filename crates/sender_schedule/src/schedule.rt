@@ -4,6 +4,7 @@ ghost use Rattle.std.specs.Prelude.{◌≡◌, ◌≤◌, [], All, Some, None, i
 ghost use Rattle.std.specs.List.{flat_map};
 ghost use Rattle.sender_plan.specs.Session.{HasObject};
 ghost use Rattle.sender_schedule.specs.Gives.{Gives};
+ghost use Rattle.sender_schedule.specs.Places.{opening};
 ghost use Rattle.sender_schedule.specs.Schedule.{schedule, object_datagrams};
 ghost use Rattle.sender_schedule.specs.Inner.Rest.{left_of, IsDue};
 
@@ -87,8 +88,9 @@ impl<'a> Schedule<'a> {
 #[tactic(auto, using(crate::proofs::Objects::can_be_sent))]
 fn open<'a>(session: &'a Session, items: &mut Items<'a>) -> Option<&'a SentObject>
     requires { All (HasObject session.now) items.old }
-    ensures rest { flat_map (object_datagrams session.now) items.old ≡ left_of session.now.tsi (option_map (λ o. o.now) result) (record { symbol = 0; block = 0 }) ++ flat_map (object_datagrams session.now) items.new }
-    ensures due { IsDue items.new (option_map (λ o. o.now) result) (record { symbol = 0; block = 0 }) }
+    ensures rest { flat_map (object_datagrams session.now) items.old
+        ≡ left_of session.now.tsi (option_map (λ o. o.now) result) opening ++ flat_map (object_datagrams session.now) items.new }
+    ensures due { IsDue items.new (option_map (λ o. o.now) result) opening }
     ensures known { All (HasObject session.now) items.new }
 {
     let toi = items.next()?;

@@ -8,6 +8,7 @@ use Rattle.sender_schedule.proofs.datagram.packet.Goals as goal
 pub invariant_of-result : goal.invariant_of-result
 invariant_of-result c =
     let p = c.args.place in
-    subst (λ (o : SentObject). IsPacket (record { tsi = c.from.result; toi = o.toi; oti = o.oti; sbn = p.block; esi = p.symbol; symbol = c.args.symbol.now; close = false }))
+    let symbol = c.args.symbol.now in
+    subst (λ (o : SentObject). IsPacket (record { tsi = c.from.result; toi = o.toi; oti = o.oti; sbn = p.block; esi = p.symbol; symbol = symbol; close = false }))
     (sym c.object.view_is)
     (rw (c.from.ensures, c.requires.symbol) (packet_is c.args.tsi c.args.object.now p (omega (arith, c.ranges.tsi.fits)) c.requires.object c.requires.place))

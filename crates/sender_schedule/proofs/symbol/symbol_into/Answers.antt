@@ -14,7 +14,8 @@ use Rattle.sender_schedule.proofs.symbol.symbol_into.Goals as goal
 row_within : (c : goal.After-from) → c.block_start.result + c.from.result < sources c.args.oti.now
 row_within c =
     let o = c.args.oti.now in
-    omega (arith, c.block_start.ensures, source_within o c.args.place.block c.args.place.symbol c.requires.object.sound c.requires.place.block (omega (arith, c.block_k-k.ensures.value)))
+    let below : c.args.place.symbol < size_at o c.args.place.block = omega (arith, c.block_k-k.ensures.value) in
+    omega (arith, c.block_start.ensures, source_within o c.args.place.block c.args.place.symbol c.requires.object.sound c.requires.place.block below)
 
 pub overflow_add-number : goal.overflow_add-number
 overflow_add-number c = omega (arith, row_within c, sources_fit c.args.oti.now c.requires.object.sound)
@@ -25,7 +26,8 @@ source_symbol-requires-clause-within c = row_within c
 pub make-requires-clause-symbol : goal.make-requires-clause-symbol
 make-requires-clause-symbol c =
     let o = c.args.oti.now in
-    omega (arith, (encoding_at_bounds o c.requires.object.sound c.args.place.block c.requires.place.block).1, c.requires.place.symbol, c.requires.object.sound.max_n_fits)
+    let most = (encoding_at_bounds o c.requires.object.sound c.args.place.block c.requires.place.block).1 in
+    omega (arith, most, c.requires.place.symbol, c.requires.object.sound.max_n_fits)
 
 pub returns-then-place-k : goal.returns-then-place-k
 returns-then-place-k c =

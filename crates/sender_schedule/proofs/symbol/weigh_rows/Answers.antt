@@ -23,7 +23,8 @@ loop-i-init c = record {
 row_within : (c : goal.After-from) → c.block_start-start.result + c.from.result < sources c.args.oti.now
 row_within c =
     let o = c.args.oti.now in
-    omega (arith, c.block_start-start.ensures, source_within o c.args.place.block c.loop-i.i c.requires.object.sound c.requires.place.block (omega (arith, c.block_k-i-end.ensures.value)))
+    let below : c.loop-i.i < size_at o c.args.place.block = omega (arith, c.block_k-i-end.ensures.value) in
+    omega (arith, c.block_start-start.ensures, source_within o c.args.place.block c.loop-i.i c.requires.object.sound c.requires.place.block below)
 
 pub overflow_add-start : goal.overflow_add-start
 overflow_add-start c = omega (arith, row_within c, sources_fit c.args.oti.now c.requires.object.sound)
