@@ -135,9 +135,10 @@ fn the_first_datagram_in_full(rt: HostRuntime) -> Result<(), Fail> {
     let mut schedule = Schedule::new(&session);
     let mut datagram = Vec::new(rt.alloc());
     assert!(&rt; schedule.next(&mut datagram)?);
-    assert_eq!(&rt; &datagram[..28], DESCRIPTOR_HEADER.as_slice());
-    assert_eq!(&rt; &datagram[28..32], [0, 0, 0, 0].as_slice());
-    assert_eq!(&rt; &datagram[32..], &LIST_ONE_DESCRIPTOR[..25]);
+    assert_eq!(&rt; datagram.len(), 57);
+    assert!(&rt; datagram.starts_with(DESCRIPTOR_HEADER));
+    assert!(&rt; datagram[28..].starts_with(&[0, 0, 0, 0]));
+    assert!(&rt; datagram[32..].starts_with(&LIST_ONE_DESCRIPTOR[..25]));
     Ok(())
 }
 
@@ -196,7 +197,8 @@ fn a_block_of_255_source_symbols(rt: HostRuntime) -> Result<(), Fail> {
     let mut datagram = Vec::new(rt.alloc());
     for symbol in 0..255u8 {
         assert_next(&rt, &mut schedule, &mut datagram, 1, 0, symbol)?;
-        assert_eq!(&rt; &datagram[32..], [symbol % 251].as_slice());
+        assert_eq!(&rt; datagram.len(), 33);
+        assert_eq!(&rt; datagram[32], symbol % 251);
     }
     assert_end(&rt, &mut schedule, &mut datagram)
 }

@@ -20,10 +20,12 @@ pub(super) fn object(
     max_n: u8,
 ) -> Result<SentObject, Fail>
     requires number { 1 ≤ toi }
-    requires bytes { length bytes.now < 2 ^ 48 }
     requires symbol { symbol ≤ 65475 }
     ensures { IfOk result (λ o. IsObject (toi - 1) o) }
 {
+    if bytes.len() >= 1 << 48 {
+        return Err(Fail::from("it is short"));
+    }
     match Oti::new(bytes.len() as u64, symbol, max_block, max_n) {
         Ok(oti) => Ok(SentObject {
             toi,
