@@ -33,7 +33,7 @@ fn stands_unusable(
     list: &'static str,
     cause: Cause,
 ) -> Result<(), AllocError> {
-    let toi = 10 + u32::try_from(list.len()).unwrap_or(0);
+    let toi = u32::try_from(list.len()).unwrap_or(0).saturating_add(10);
     stands(
         rt,
         alloc,

@@ -1,5 +1,7 @@
 //! A receiver under test.
 
+ghost use Rattle.std.specs.Prelude.{◌≤◌, ◌^◌};
+
 use crate::{Kept, Receiver, Taken};
 use rs_solve::Steps;
 use std::alloc::{AllocError, Global};
@@ -25,7 +27,10 @@ pub struct Trial {
 }
 
 impl Trial {
-    pub fn start(alloc: Global, budget: u64) -> Result<Trial, AllocError> {
+    pub fn start(alloc: Global, budget: u64) -> Result<Trial, AllocError>
+        requires least { 4096 ≤ budget }
+        requires most { budget ≤ 2 ^ 30 }
+    {
         Ok(Trial {
             receiver: Receiver::start(alloc, 1, budget)?,
             steps: Steps::start(()),
