@@ -5,3 +5,7 @@ mod Causes
 mod Continued
 mod BadLines
 mod Sets
+mod Keys
+mod Keeping
+mod Lengths
+mod Places

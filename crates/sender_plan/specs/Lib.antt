@@ -5,4 +5,6 @@ pub mod Catalog
 pub mod Distinct
 pub mod Names
 pub mod Check
+pub mod Content
+pub mod Plan
 pub mod Inner

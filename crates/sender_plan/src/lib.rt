@@ -1,11 +1,14 @@
 //! What a sender sends: a catalog of file sets, and the session planned from it (RFC 6968, section 3).
 #![tactic(auto)]
 
+mod bodies;
 mod catalog;
 mod fault;
+mod key;
 mod line;
 mod names;
 mod params;
+mod planner;
 mod reading;
 mod session;
 

@@ -1,0 +1,48 @@
+-- The places of bodies among the distinct ones.
+use Rattle.std.proofs.Common.{◌≡◌, ℕ, zero, suc, ◌+◌, ◌<◌, Bool, true, false, cond, List, [], ◌∷◌, ◌++◌, Option, Some, None, Bor, length, refl, sym, ap, ◌∙◌, arith}
+use Rattle.std.specs.Prelude.{map, slice_get}
+use Rattle.std.specs.List.{IsDistinct, AllByRecursion, list_any}
+use Rattle.std.specs.Str.{bytes_eq}
+use Rattle.std.proofs.lemmas.List.{map-append}
+use Rattle.sender_plan.specs.Inner.Sets.{added}
+
+all_shown : (x : List ℕ) (keys : List (Bor (List ℕ))) → AllByRecursion (λ k. bytes_eq x k.now ≡ false) keys → AllByRecursion (λ y. bytes_eq x y ≡ false) (map (λ k. k.now) keys)
+all_shown x [] all = tt
+all_shown x (k ∷ keys) all = (all.0, all_shown x keys all.1)
+
+pub distinct_shown : (keys : List (Bor (List ℕ))) → IsDistinct (λ a b. bytes_eq a.now b.now) keys → IsDistinct bytes_eq (map (λ k. k.now) keys)
+unfolding IsDistinct
+distinct_shown [] all = tt
+distinct_shown (k ∷ keys) all = (all_shown k.now keys all.0, distinct_shown keys all.1)
+
+slice_front : (xs ys : List (List ℕ)) (i : ℕ) (x : List ℕ) → slice_get xs i ≡ Some x → slice_get (xs ++ ys) i ≡ Some x
+slice_front [] ys i x is = absurd cc
+slice_front (y ∷ xs) ys zero x is = is
+slice_front (y ∷ xs) ys (suc i) x is = slice_front xs ys i x is
+
+grows : (keys more : List (List ℕ)) (places : List ℕ) (done : List (List ℕ)) → map (slice_get keys) places ≡ map (λ body. Some body) done
+    → map (slice_get (keys ++ more)) places ≡ map (λ body. Some body) done
+grows keys more [] [] is = refl
+grows keys more [] (body ∷ done) is = absurd cc
+grows keys more (place ∷ places) [] is = absurd cc
+grows keys more (place ∷ places) (body ∷ done) is =
+    let here : slice_get keys place ≡ Some body = cc in
+    let later : map (slice_get keys) places ≡ map (λ b. Some b) done = cc in
+    rw (slice_front keys more place body here, grows keys more places done later) refl
+
+grows_added : (keys : List (List ℕ)) (body : List ℕ) (places : List ℕ) (done : List (List ℕ)) → map (slice_get keys) places ≡ map (λ b. Some b) done
+    → map (slice_get (added bytes_eq keys body)) places ≡ map (λ b. Some b) done
+grows_added keys body places done is = by (list_any (bytes_eq body) keys) is (grows keys (body ∷ []) places done is)
+  where
+    by : (t : Bool) → map (slice_get keys) places ≡ map (λ b. Some b) done → map (slice_get (keys ++ body ∷ [])) places ≡ map (λ b. Some b) done
+        → map (slice_get (cond t keys (keys ++ body ∷ []))) places ≡ map (λ b. Some b) done
+    by true here more = here
+    by false here more = more
+
+-- the place of one body more
+pub places_more : (keys new : List (List ℕ)) (body : List ℕ) (place : ℕ) (places : List ℕ) (done : List (List ℕ))
+    → map (slice_get keys) places ≡ map (λ b. Some b) done → new ≡ added bytes_eq keys body → slice_get new place ≡ Some body
+    → map (slice_get new) (places ++ place ∷ []) ≡ map (λ b. Some b) (done ++ body ∷ [])
+places_more keys new body place places done is made stands =
+    let before : map (slice_get new) places ≡ map (λ b. Some b) done = rw made (grows_added keys body places done is) in
+    map-append (slice_get new) places (place ∷ []) ∙ (λ i. before i ++ stands i ∷ []) ∙ sym (map-append (λ (b : List ℕ). Some b) done (body ∷ []))

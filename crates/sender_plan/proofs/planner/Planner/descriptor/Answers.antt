@@ -1,0 +1,14 @@
+use Rattle.std.proofs.Common.{◌<◌, ◌^◌, length, subst, sym, arith}
+use Rattle.sender_plan.proofs.Lengths.{descriptor_length}
+use Rattle.sender_plan.proofs.Keeping.{descriptor_kept}
+use Rattle.sender_plan.proofs.planner.Planner.descriptor.Goals as goal
+
+pub push-requires : goal.push-requires
+push-requires c =
+    let size = descriptor_length c.args.number c.args.listed.now c.ranges.number.fits c.requires.few c.requires.small in
+    rw c.in_ok-bytes.ensures.bytes (omega (arith, size.1))
+
+pub returns-clause-ok : goal.returns-clause-ok
+returns-clause-ok c =
+    descriptor_kept c.push.result c.args.self.now c.push.new.self c.args.number c.args.listed.now c.in_ok-bytes.bytes.items c.in_ok-bytes.ensures.bytes
+    c.push.ensures.same.0 c.push.ensures.same.1 c.push.ensures.same.2 c.push.ensures.ok
