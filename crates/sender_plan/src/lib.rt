@@ -9,12 +9,14 @@ mod line;
 mod names;
 mod params;
 mod planner;
+mod planning;
 mod reading;
 mod session;
 
 pub use catalog::{Catalog, CatalogInstance, CatalogItem};
 pub use fault::{CatalogFault, PlanFault};
 pub use params::{Params, check};
+pub use planning::plan;
 pub use reading::read_catalog;
 pub use session::{SentInstance, SentObject, Session};
 
