@@ -1,7 +1,7 @@
 -- The places of bodies among the distinct ones.
-use Rattle.std.proofs.Common.{◌≡◌, ℕ, zero, suc, ◌+◌, ◌<◌, Bool, true, false, cond, List, [], ◌∷◌, ◌++◌, Option, Some, None, Bor, length, refl, sym, ap, ◌∙◌, arith}
+use Rattle.std.proofs.Common.{◌≡◌, ℕ, zero, suc, ◌+◌, ◌<◌, Bool, true, false, not, cond, List, [], ◌∷◌, ◌++◌, Option, Some, None, Bor, length, get_or, refl, sym, ap, ◌∙◌, arith}
 use Rattle.std.specs.Prelude.{map, slice_get}
-use Rattle.std.specs.List.{IsDistinct, AllByRecursion, list_any}
+use Rattle.std.specs.List.{IsDistinct, AllByRecursion, list_any, position_or_len}
 use Rattle.std.specs.Str.{bytes_eq}
 use Rattle.std.proofs.lemmas.List.{map-append}
 use Rattle.sender_plan.specs.Inner.Sets.{added}
@@ -46,3 +46,14 @@ pub places_more : (keys new : List (List ℕ)) (body : List ℕ) (place : ℕ) (
 places_more keys new body place places done is made stands =
     let before : map (slice_get new) places ≡ map (λ b. Some b) done = rw made (grows_added keys body places done is) in
     map-append (slice_get new) places (place ∷ []) ∙ (λ i. before i ++ stands i ∷ []) ∙ sym (map-append (λ (b : List ℕ). Some b) done (body ∷ []))
+
+-- ---- a name among references to names
+
+pub place_shown : (p : List ℕ → Bool) (keys : List (Bor (List ℕ))) → position_or_len p (map (λ k. k.now) keys) ≡ position_or_len (λ k. p k.now) keys
+place_shown p [] = refl
+place_shown p (k ∷ keys) = ap (λ n. cond (not (p k.now)) (1 + n) 0) (place_shown p keys)
+
+pub stands_at : (xs : List ℕ) (i : ℕ) → i < length xs → slice_get xs i ≡ Some (get_or xs i 0)
+stands_at [] i within = absurd (omega arith)
+stands_at (x ∷ xs) zero within = refl
+stands_at (x ∷ xs) (suc i) within = stands_at xs i (omega arith)

@@ -77,7 +77,7 @@ module _ {X : Type 0} (same : X → X → Bool) where
 pub bytes_transitive : IsTransitive bytes_eq
 bytes_transitive a b c ab bc = (bytes_eq-Decides a c).1 ((bytes_eq-Decides a b).0 ab ∙ (bytes_eq-Decides b c).0 bc)
 
-any_shown : (p : List ℕ → Bool) (keys : List (Bor (List ℕ))) → list_any (λ k. p k.now) keys ≡ list_any p (map (λ k. k.now) keys)
+pub any_shown : (p : List ℕ → Bool) (keys : List (Bor (List ℕ))) → list_any (λ k. p k.now) keys ≡ list_any p (map (λ k. k.now) keys)
 any_shown p [] = refl
 any_shown p (k ∷ keys) = ap (λ t. p k.now || t) (any_shown p keys)
 
