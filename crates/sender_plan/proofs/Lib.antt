@@ -9,3 +9,7 @@ mod Keys
 mod Keeping
 mod Lengths
 mod Places
+mod Identifiers
+mod Sessions
+mod Planned
+mod Filing

@@ -4,7 +4,12 @@ use Rattle.std.specs.Prelude.{map, slice_get}
 use Rattle.std.specs.List.{IsDistinct, AllByRecursion, list_any, position_or_len}
 use Rattle.std.specs.Str.{bytes_eq}
 use Rattle.std.proofs.lemmas.List.{map-append}
+use Rattle.sender_plan.specs.declared.key.FileKey.{FileKey}
+use Rattle.sender_plan.specs.CatalogInstance.{CatalogItem}
+use Rattle.sender_plan.specs.Content.{File}
+use Rattle.sender_plan.specs.Plan.{file_of}
 use Rattle.sender_plan.specs.Inner.Sets.{added}
+use Rattle.sender_plan.specs.Inner.Planning.{shown_kind, file_at, body_at}
 
 all_shown : (x : List ℕ) (keys : List (Bor (List ℕ))) → AllByRecursion (λ k. bytes_eq x k.now ≡ false) keys → AllByRecursion (λ y. bytes_eq x y ≡ false) (map (λ k. k.now) keys)
 all_shown x [] all = tt
@@ -57,3 +62,17 @@ pub stands_at : (xs : List ℕ) (i : ℕ) → i < length xs → slice_get xs i �
 stands_at [] i within = absurd (omega arith)
 stands_at (x ∷ xs) zero within = refl
 stands_at (x ∷ xs) (suc i) within = stands_at xs i (omega arith)
+
+pub at_place_or : (xs : List ℕ) (i v d : ℕ) → slice_get xs i ≡ Some v → get_or xs i d ≡ v
+at_place_or [] i v d is = absurd cc
+at_place_or (x ∷ xs) zero v d is = cc
+at_place_or (x ∷ xs) (suc i) v d is = at_place_or xs i v d is
+
+-- the file of an item, by its key
+pub file_keyed : (names : List (Bor (List ℕ))) (places : List ℕ) (bodies : List (Bor (List ℕ))) (item : CatalogItem) (key : FileKey) (place : ℕ)
+    → key.location.now ≡ item.location → shown_kind key.kind ≡ item.kind → key.body ≡ place
+    → slice_get places (position_or_len (bytes_eq item.name) (map (λ k. k.now) names)) ≡ Some place
+    → file_at (map (λ b. b.now) bodies) key ≡ file_of (body_at names places bodies) item
+file_keyed names places bodies item key place location kind body stands =
+    let at = at_place_or places (position_or_len (bytes_eq item.name) (map (λ (k : Bor (List ℕ)). k.now) names)) place (length bodies) stands in
+    λ i. File (location i) (kind i) (get_or (map (λ (b : Bor (List ℕ)). b.now) bodies) ((body ∙ sym at) i) [])

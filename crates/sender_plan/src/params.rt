@@ -1,7 +1,9 @@
 //! How a catalog is sent, and whether it can be.
 
-ghost use Rattle.std.specs.Prelude.{◌≡◌, None, Some, OnOk, IfErr, option_map};
+ghost use Rattle.std.specs.Prelude.{◌≡◌, ◌≢◌, ◌≤◌, None, Some, length, OnOk, IfErr, option_map};
 ghost use Rattle.wire_bytes.specs.FirstFault.{first_fault};
+ghost use Rattle.sender_plan.specs.declared.fault.PlanFault.TheVariants.{Memory};
+ghost use Rattle.sender_plan.specs.CatalogInstance.{most_instances};
 ghost use Rattle.sender_plan.specs.Check as specs;
 ghost use Rattle.sender_plan.specs.Check.{check_faults};
 
@@ -31,6 +33,8 @@ pub struct Params {
 pub fn check(catalog: &Catalog, params: &Params) -> Result<(), PlanFault>
     ensures ok { OnOk result (first_fault (check_faults catalog.now params.now) ≡ None) }
     ensures err { IfErr result (λ fault. first_fault (check_faults catalog.now params.now) ≡ Some fault) }
+    ensures memory { IfErr result (λ fault. fault ≢ Memory) }
+    ensures few { length catalog.now ≤ most_instances }
 {
     let instances = catalog.as_slice();
     if let Some(at) = not_rising(instances) {

@@ -2,14 +2,14 @@
 
 ghost use Rattle.std.specs.Prelude.{◌≡◌, ◌<◌, ◌≤◌, ◌+◌, ◌^◌, ℕ, List, length, map, IfOk, OnOk, OnErr, true, unwrap_or, slice_index_or, ◌∷◌, ◌++◌, []};
 ghost use Rattle.std.specs.Option.{ForSome};
-ghost use Rattle.std.specs.List.{position_or_len, IsDistinct, AllByRecursion};
-ghost use Rattle.std.specs.Str.{bytes_eq};
+ghost use Rattle.std.specs.List.{position_or_len, AllByRecursion};
 ghost use Rattle.meta_text.specs.Text.{IsValue};
 ghost use Rattle.carousel_cid.specs.Repeats.{are_different};
+ghost use Rattle.oti_blocks.specs.Partition.{IsSound};
 ghost use Rattle.sender_plan.specs.CatalogInstance.{CatalogInstance};
 ghost use Rattle.sender_plan.specs.Content.{Content, Descriptor, same};
 ghost use Rattle.sender_plan.specs.Inner.Sets.{added};
-ghost use Rattle.sender_plan.specs.Inner.Planning.{Keeps, file_at, shown_kind};
+ghost use Rattle.sender_plan.specs.Inner.Planning.{Keeps, IsReady, file_at, shown_kind};
 ghost use Rattle.sender_plan.specs.Plan.{information};
 
 use crate::key::FileKey;
@@ -23,19 +23,19 @@ use std::alloc::AllocError;
 
 /// The objects so far, and where each file stands among them.
 #[derive(Drop)]
-pub(crate) struct Planner<'a> {
+pub(crate) struct Planner<'a, 'b> {
     pub(crate) params: Params,
     /// The distinct bodies, by which keys count.
-    pub(crate) bodies: &'a [&'a [u8]],
+    pub(crate) bodies: &'b [&'b [u8]],
     pub(crate) objects: Vec<SentObject>,
     /// The identifier of each file.
-    pub(crate) files: IndexMap<FileKey<'a>, u128>,
+    pub(crate) files: IndexMap<FileKey<'a>, usize>,
 }
 
-impl<'a> Planner<'a> {
+impl<'a, 'b> Planner<'a, 'b> {
     /// The identifier of a file, whose object is made where it isn't there yet.
-    pub(crate) fn file(&mut self, key: FileKey<'a>) -> Result<u128, AllocError>
-        requires distinct { IsDistinct bytes_eq (map (λ b. b.now) self.old.bodies.now) }
+    pub(crate) fn file(&mut self, key: FileKey<'a>) -> Result<usize, AllocError>
+        requires ready { IsReady self.old }
         requires body { key.body < length self.old.bodies.now }
         requires somewhere { 0 < length key.location.now }
         requires location { IsValue key.location.now }
@@ -43,6 +43,7 @@ impl<'a> Planner<'a> {
         requires short { length (slice_index_or (map (λ b. b.now) self.old.bodies.now) key.body []) ≤ 16777216 }
         requires texts { length key.location.now + length (unwrap_or (shown_kind key.kind) []) ≤ 16777216 }
         ensures same { (self.new.params ≡ self.old.params) × (self.new.bodies.now ≡ self.old.bodies.now) }
+        ensures ready { OnOk result (IsReady self.new) }
         ensures ok { IfOk result (λ toi. (listed : CatalogInstance → List ℕ) (kept : List Content) → Keeps listed kept self.old
             → Keeps listed (added same kept (file_at (map (λ b. b.now) self.old.bodies.now) key.entry)) self.new) }
         ensures toi { IfOk result (λ toi. (listed : CatalogInstance → List ℕ) (kept : List Content) → Keeps listed kept self.old
@@ -59,11 +60,13 @@ impl<'a> Planner<'a> {
     }
 
     /// Adds the descriptor of an instance with this number, which lists these identifiers, and gives its own.
-    pub(crate) fn descriptor(&mut self, number: u32, listed: &[u128]) -> Result<u128, AllocError>
+    pub(crate) fn descriptor(&mut self, number: u32, listed: &[u128]) -> Result<usize, AllocError>
+        requires ready { IsReady self.old }
         requires few { length listed.now ≤ 4096 }
         requires different { are_different listed.now ≡ true }
         requires small { AllByRecursion (λ toi. toi < 2 ^ 112) listed.now }
         ensures same { (self.new.params ≡ self.old.params) × (self.new.bodies.now ≡ self.old.bodies.now) }
+        ensures ready { OnOk result (IsReady self.new) }
         ensures toi { IfOk result (λ toi. toi ≡ length self.old.objects.items + 1) }
         ensures ok { OnOk result ((lists : CatalogInstance → List ℕ) (kept : List Content) (instance : CatalogInstance) → Keeps lists kept self.old
             → instance.number ≡ number → lists instance ≡ listed.now → Keeps lists (kept ++ Descriptor instance ∷ []) self.new) }
@@ -74,9 +77,11 @@ impl<'a> Planner<'a> {
     }
 
     /// Adds an object with these bytes, and gives its identifier.
-    pub(crate) fn push(&mut self, bytes: Vec<u8>) -> Result<u128, AllocError>
-        requires { length bytes.items < 2 ^ 48 }
+    pub(crate) fn push(&mut self, bytes: Vec<u8>) -> Result<usize, AllocError>
+        requires ready { IsReady self.old }
+        requires sound { IsSound (information self.old.params bytes.items) }
         ensures same { (self.new.params ≡ self.old.params) × (self.new.bodies.now ≡ self.old.bodies.now) × (self.new.files ≡ self.old.files) }
+        ensures ready { OnOk result (IsReady self.new) }
         ensures toi { IfOk result (λ toi. toi ≡ length self.old.objects.items + 1) }
         ensures ok { OnOk result (self.new.objects.items ≡ self.old.objects.items ++ record {
           toi = length self.old.objects.items + 1;
@@ -98,6 +103,6 @@ impl<'a> Planner<'a> {
             oti,
             bytes: Blob::new(bytes),
         })?;
-        Ok(toi)
+        Ok(self.objects.len())
     }
 }
