@@ -172,3 +172,7 @@ pub descriptor_kept : {V : Type 0} (r : Result V AllocError) (old new : Planner)
 descriptor_kept (Ok v) old new number listed bytes made params bodies files pushed = λ lists kept instance keeps numbered is.
     keeps_descriptor lists kept instance old new number listed bytes keeps numbered is made params bodies files pushed
 descriptor_kept (Err e) old new number listed bytes made params bodies files pushed = tt
+
+pub length_kept : (lists : CatalogInstance → List ℕ) (kept : List Content) (planner : Planner) → Keeps lists kept planner → length planner.objects.items ≡ length kept
+length_kept lists kept planner keeps =
+    ap length keeps.objects ∙ length-objects planner.params 1 (map (content_bytes lists) kept) ∙ length-map kept (content_bytes lists)
