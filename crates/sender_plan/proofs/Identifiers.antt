@@ -75,6 +75,9 @@ module _ {X : Type 0} (same_as : X → X → Bool) where
       let here = added_front kept x later.0 in
       (here.0, later.1 ∙ here.1)
 
+  pub added_all_grows : (kept xs : List X) → length kept ≤ length (added_all same_as kept xs)
+  added_all_grows kept xs = let more = added_all_front kept xs in omega (arith, ap length more.1, length-append kept more.0)
+
   any_front : (p : X → Bool) (xs ys : List X) → list_any p xs ≡ true → list_any p (xs ++ ys) ≡ true
   any_front p xs ys there = rw (list_any-append p xs ys, there) refl
 
@@ -104,15 +107,16 @@ module _ {X : Type 0} (same_as : X → X → Bool) where
       by true here none later = absurd cc
       by false here none later = later here none
 
+pub each_more : {X : Type 0} (P : X → Type 0) (xs : List X) (x : X) → AllByRecursion P xs → P x → AllByRecursion P (xs ++ x ∷ [])
+each_more P [] x all here = (here, tt)
+each_more P (y ∷ ys) x all here = (all.0, each_more P ys x all.1 here)
+
 pub added_each : {X : Type 0} (P : X → Type 0) (same_as : X → X → Bool) (kept : List X) (x : X) → AllByRecursion P kept → P x → AllByRecursion P (added same_as kept x)
 added_each {X} P same_as kept x all here = by (list_any (same_as x) kept)
   where
-    more : (xs : List X) → AllByRecursion P xs → AllByRecursion P (xs ++ x ∷ [])
-    more [] all = (here, tt)
-    more (y ∷ ys) all = (all.0, more ys all.1)
     by : (t : Bool) → AllByRecursion P (cond t kept (kept ++ x ∷ []))
     by true = all
-    by false = more kept all
+    by false = each_more P kept x all here
 
 pub added_length : {X : Type 0} (same_as : X → X → Bool) (kept : List X) (x : X) → length (added same_as kept x) ≤ length kept + 1
 added_length {X} same_as kept x = by (list_any (same_as x) kept)

@@ -147,11 +147,11 @@ places_within kept (c ∷ files) there =
 
 all_filtered : (P : ℕ → Type 0) (keeps : ℕ → Bool) (ts : List ℕ) → AllByRecursion P ts → AllByRecursion P (filter keeps ts)
 all_filtered P keeps [] all = tt
-all_filtered P keeps (t ∷ ts) all = by (keeps t)
+all_filtered P keeps (t ∷ ts) all = by (keeps t) (all_filtered P keeps ts all.1)
   where
-    by : (b : Bool) → AllByRecursion P (cond b (t ∷ filter keeps ts) (filter keeps ts))
-    by true = (all.0, all_filtered P keeps ts all.1)
-    by false = all_filtered P keeps ts all.1
+    by : (b : Bool) → AllByRecursion P (filter keeps ts) → AllByRecursion P (cond b (t ∷ filter keeps ts) (filter keeps ts))
+    by true rest = (all.0, rest)
+    by false rest = rest
 
 first_within : (P : ℕ → Type 0) (ts : List ℕ) → AllByRecursion P ts → AllByRecursion P (first_places ts)
 first_within P [] all = tt
