@@ -30,8 +30,8 @@ through : (held : List (List ℕ)) (places : List ℕ) (bodies : List (List ℕ)
 through held [] [] is i = past_end held
 through held [] (b ∷ bodies) is i = absurd cc
 through held (place ∷ places) [] is i = absurd cc
-through held (place ∷ places) (b ∷ bodies) is zero = stands_or held place b cc
-through held (place ∷ places) (b ∷ bodies) is (suc i) = through held places bodies cc i
+through held (place ∷ places) (b ∷ bodies) is zero = stands_or held place b (cc)
+through held (place ∷ places) (b ∷ bodies) is (suc i) = through held places bodies (cc) i
 
 pub same_body : (instances : List CatalogInstance) (bodies : List (List ℕ)) (names : List (Bor (List ℕ))) (places : List ℕ) (held : List (Bor (List ℕ)))
     → map (λ k. k.now) names ≡ names_of instances → map (slice_get (map (λ k. k.now) held)) places ≡ map (λ b. Some b) bodies
@@ -58,7 +58,7 @@ pub places_within : (held : List (List ℕ)) (places : List ℕ) (bodies : List 
     → AllByRecursion (λ place. place < length held) places
 places_within held [] bodies is = tt
 places_within held (place ∷ places) [] is = absurd cc
-places_within held (place ∷ places) (b ∷ bodies) is = (inside held place b cc, places_within held places bodies cc)
+places_within held (place ∷ places) (b ∷ bodies) is = (inside held place b (cc), places_within held places bodies (cc))
 
 short_or : (bodies : List (List ℕ)) (i : ℕ) → AllByRecursion (λ b. length b ≤ 16777216) bodies → length (get_or bodies i []) ≤ 16777216
 short_or [] i short = omega arith

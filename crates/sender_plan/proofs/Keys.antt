@@ -13,7 +13,7 @@ use Rattle.sender_plan.specs.Inner.Planning.{shown_kind, key_same, file_at}
 pub equal_bytes : (a b : List ℕ) → bytes_eq a b ≡ true → a ≡ b
 equal_bytes a b = (bytes_eq-Decides a b).0
 
-same_bytes : (a b : List ℕ) → a ≡ b → bytes_eq a b ≡ true
+pub same_bytes : (a b : List ℕ) → a ≡ b → bytes_eq a b ≡ true
 same_bytes a b = (bytes_eq-Decides a b).1
 
 equal_kind : (a b : Option (List ℕ)) → same_kind a b ≡ true → a ≡ b

@@ -81,12 +81,12 @@ none_refuses instances bodies params sound = none_checked instances params (none
 
 pub few_files : (at : ℕ) (instances : List CatalogInstance) → too_many at instances ≡ None → AllByRecursion (λ i. length i.items ≤ 4096) instances
 few_files at [] few = tt
-few_files at (i ∷ instances) few = by (nat_lt most_files (length i.items)) refl few
+few_files at (i ∷ instances) few = by (nat_lt most_files (length i.items)) refl few (few_files (at + 1) instances)
   where
     by : (t : Bool) → nat_lt most_files (length i.items) ≡ t → cond t (Some at) (too_many (at + 1) instances) ≡ None
-        → AllByRecursion (λ j. length j.items ≤ 4096) (i ∷ instances)
-    by true is few = absurd cc
-    by false is few = (ltb-false most_files (length i.items) is, few_files (at + 1) instances few)
+        → (too_many (at + 1) instances ≡ None → AllByRecursion (λ j. length j.items ≤ 4096) instances) → AllByRecursion (λ j. length j.items ≤ 4096) (i ∷ instances)
+    by true is few later = absurd cc
+    by false is few later = (ltb-false most_files (length i.items) is, later few)
 
 pub each_at : {X : Type 0} (P : X → Type 0) (xs : List X) → AllByRecursion P xs → All P xs
 each_at P [] all i d within = absurd (omega arith)
@@ -149,15 +149,18 @@ few_contents body instances few less = omega (arith, less, contents_length body 
 
 -- ---- it is a session
 
+same_some : {X : Type 0} (x y : X) → Some x ≡ Some y → x ≡ y
+same_some x y is = cc
+
 toi_at : (params : Params) (toi : ℕ) (texts : List (List ℕ)) (position : ℕ) (o : SentObject) → slice_get (objects_from params toi texts) position ≡ Some o
     → o.toi ≡ position + toi
 toi_at params toi [] position o is = absurd cc
-toi_at params toi (bytes ∷ texts) zero o is = cc
+toi_at params toi (bytes ∷ texts) zero o is = omega (arith, ap (λ (x : SentObject). x.toi) (same_some _ _ is))
 toi_at params toi (bytes ∷ texts) (suc position) o is = omega (arith, toi_at params (toi + 1) texts position o is)
 
 sendable_at : (objects : List SentObject) (position : ℕ) (o : SentObject) → AllByRecursion IsSendable objects → slice_get objects position ≡ Some o → IsSendable o
 sendable_at [] position o all is = absurd cc
-sendable_at (x ∷ objects) zero o all is = subst IsSendable (let same : x ≡ o = cc in same) all.0
+sendable_at (x ∷ objects) zero o all is = subst IsSendable (same_some x o is) all.0
 sendable_at (x ∷ objects) (suc position) o all is = sendable_at objects position o all.1 is
 
 pub is_object : (params : Params) (texts : List (List ℕ)) (objects : List SentObject) → objects ≡ objects_from params 1 texts → AllByRecursion IsSendable objects

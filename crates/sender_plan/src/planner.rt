@@ -79,7 +79,7 @@ impl<'a, 'b> Planner<'a, 'b> {
     /// Adds an object with these bytes, and gives its identifier.
     pub(crate) fn push(&mut self, bytes: Vec<u8>) -> Result<usize, AllocError>
         requires ready { IsReady self.old }
-        requires sound { IsSound (information self.old.params bytes.items) }
+        requires sound { self.old.params.max_n < 2 ^ 8 → IsSound (information self.old.params bytes.items) }
         ensures same { (self.new.params ≡ self.old.params) × (self.new.bodies.now ≡ self.old.bodies.now) × (self.new.files ≡ self.old.files) }
         ensures ready { OnOk result (IsReady self.new) }
         ensures toi { IfOk result (λ toi. toi ≡ length self.old.objects.items + 1) }

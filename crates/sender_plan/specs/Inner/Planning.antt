@@ -1,5 +1,5 @@
 -- The stages of a plan.
-use Rattle.std.specs.Prelude.{◌≡◌, ℕ, ◌+◌, ◌^◌, ◌<◌, ◌≤◌, ◌==◌, ◌&&◌, Bool, true, if◌then◌else◌, List, [], ◌∷◌, Option, Some, None, length, map, slice_index_or, option_copied, unwrap_or}
+use Rattle.std.specs.Prelude.{◌≡◌, ℕ, ◌+◌, ◌<◌, ◌≤◌, ◌==◌, ◌&&◌, Bool, true, if◌then◌else◌, List, [], ◌∷◌, Option, Some, None, length, map, slice_index_or, option_copied, unwrap_or}
 use Rattle.std.specs.List.{list_any, position_or_len, IsDistinct, AllByRecursion}
 use Rattle.std.specs.Option.{option_eq}
 use Rattle.std.specs.Borrow.{Bor}
@@ -52,7 +52,6 @@ pub record IsReady (planner : Planner) : Type 0 where
   pub symbol_to : planner.params.symbol ≤ 65475
   pub some_block : 1 ≤ planner.params.max_block
   pub block_within : planner.params.max_block ≤ planner.params.max_n
-  pub max_n_fits : planner.params.max_n < 2 ^ 8
   pub sendable : AllByRecursion IsSendable planner.objects.items
 
 -- The body under a name, where these names have their bodies in these places among the distinct ones.

@@ -8,8 +8,8 @@ push-requires-clause-sound c =
     let ready = c.requires.ready in
     let made = c.in_ok-bytes.ensures.bytes in
     let size = descriptor_length c.args.number c.args.listed.now c.ranges.number.fits c.requires.few c.requires.small in
-    sound_information c.args.self.now.params c.in_ok-bytes.bytes.items ready.symbol_from ready.symbol_to ready.some_block ready.block_within
-    (omega (arith, ready.max_n_fits)) (rw made size.0) (rw made (omega (arith, size.1)))
+    λ fits. sound_information c.args.self.now.params c.in_ok-bytes.bytes.items ready.symbol_from ready.symbol_to ready.some_block ready.block_within
+    fits (rw made size.0) (rw made (omega (arith, size.1)))
 
 pub returns-clause-ok : goal.returns-clause-ok
 returns-clause-ok c =

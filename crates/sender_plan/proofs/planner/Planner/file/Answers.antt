@@ -51,5 +51,5 @@ push-requires-clause-sound c =
     let ready = c.requires.ready in
     let made = c.in_ok-bytes.ensures.bytes ∙ ap (file_bytes c.args.key.location.now (shown_kind c.args.key.kind)) (body_shown planner.bodies.now c.args.key.body _ c.requires.body) in
     let size = file_length c.args.key.location.now (shown_kind c.args.key.kind) _ c.requires.short c.requires.texts in
-    sound_information planner.params c.in_ok-bytes.bytes.items ready.symbol_from ready.symbol_to ready.some_block ready.block_within
-    (omega (arith, ready.max_n_fits)) (rw made size.0) (rw made (omega (arith, size.1)))
+    λ fits. sound_information planner.params c.in_ok-bytes.bytes.items ready.symbol_from ready.symbol_to ready.some_block ready.block_within
+    fits (rw made size.0) (rw made (omega (arith, size.1)))
