@@ -96,7 +96,7 @@ impl<'a, 'b> Planner<'a, 'b> {
             self.params.max_block,
             self.params.max_n,
         ) else {
-            return Err(AllocError);
+            unreachable!()
         };
         self.objects.push(SentObject {
             toi,
