@@ -81,6 +81,10 @@ module _ {X : Type 0} (same_as : X → X → Bool) where
   any_front : (p : X → Bool) (xs ys : List X) → list_any p xs ≡ true → list_any p (xs ++ ys) ≡ true
   any_front p xs ys there = rw (list_any-append p xs ys, there) refl
 
+  -- what some element passes, some element passes once more are added
+  pub any_stays : (p : X → Bool) (kept xs : List X) → list_any p kept ≡ true → list_any p (added_all same_as kept xs) ≡ true
+  any_stays p kept xs there = let more = added_all_front kept xs in ap (list_any p) more.1 ∙ any_front p kept more.0 there
+
   -- each of these is there once all are added
   pub all_added : ((x : X) → same_as x x ≡ true) → (kept xs : List X) → AllByRecursion (λ x. list_any (same_as x) (added_all same_as kept xs) ≡ true) xs
   all_added itself kept [] = tt

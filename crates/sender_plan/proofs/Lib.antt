@@ -13,3 +13,4 @@ mod Identifiers
 mod Sessions
 mod Planned
 mod Filing
+mod Apart

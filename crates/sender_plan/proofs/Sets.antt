@@ -23,7 +23,7 @@ module _ {X : Type 0} (same : X → X → Bool) where
   abbrev others : List X → X → Bool
   others kept y = not (list_any (same y) kept)
 
-  any_through : IsTransitive same → (y x : X) (kept : List X) → same y x ≡ true → list_any (same x) kept ≡ true → list_any (same y) kept ≡ true
+  pub any_through : IsTransitive same → (y x : X) (kept : List X) → same y x ≡ true → list_any (same x) kept ≡ true → list_any (same y) kept ≡ true
   any_through trans y x [] is there = absurd cc
   any_through trans y x (k ∷ kept) is there = elim (or_cases (same x k) (list_any (same x) kept) there) [
     | inl here ↦ rw (trans y x k is here) refl

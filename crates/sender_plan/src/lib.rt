@@ -5,6 +5,7 @@ mod bodies;
 mod catalog;
 mod fault;
 mod key;
+pub mod laws;
 mod line;
 mod names;
 mod params;
