@@ -80,7 +80,7 @@ of_instances : (P : List ℕ → Type 0) (instances : List CatalogInstance) → 
 of_instances P [] all = tt
 of_instances P (i ∷ instances) all =
     let parts = split_all P (item_names i.items) (flat_map (λ (j : CatalogInstance). item_names j.items) instances)
-        (subst (AllByRecursion P) (flat_map-cons (λ (j : CatalogInstance). item_names j.items) i instances) all) in
+    (subst (AllByRecursion P) (flat_map-cons (λ (j : CatalogInstance). item_names j.items) i instances) all) in
     (of_items P i.items parts.0, of_instances P instances parts.1)
 
 names_known : (instances : List CatalogInstance)

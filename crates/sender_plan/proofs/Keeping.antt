@@ -1,5 +1,6 @@
 -- A planner that gets one object more.
-use Rattle.std.proofs.Common.{◌≡◌, ℕ, zero, suc, ◌+◌, ◌<◌, ◌≤◌, Bool, true, false, not, ◌||◌, cond, List, [], ◌∷◌, ◌++◌, Option, Some, None, Result, Ok, Err, Bor, length, length-append, get_or, refl, sym, ap, subst, ◌∙◌, arith}
+use Rattle.std.proofs.Common.{◌≡◌, ℕ, zero, suc, ◌+◌, ◌<◌, Bool, true, false, not, ◌||◌, cond, List, [], ◌∷◌, ◌++◌, Option, Some, None, Result}
+use Rattle.std.proofs.Common.{Ok, Err, Bor, length, get_or, refl, sym, ap, subst, ◌∙◌, arith}
 use Rattle.std.specs.Prelude.{map, OnOk}
 use Rattle.std.specs.Option.{option_copied}
 use Rattle.std.specs.List.{list_any, position_or_len, IsDistinct}
@@ -102,7 +103,8 @@ found_new kept content none itself =
 pub file_itself : (bodies : List (List ℕ)) (key : FileKey) → same (file_at bodies key) (file_at bodies key) ≡ true
 file_itself bodies key = files_itself key.location.now (option_copied key.kind) (get_or bodies key.body [])
 
-pub files_more : (bodies : List (List ℕ)) (kept : List Content) (key : FileKey) (toi n : ℕ) (before after : FileKey → Option ℕ) → IsDistinct bytes_eq bodies → n ≡ length bodies
+pub files_more : (bodies : List (List ℕ)) (kept : List Content) (key : FileKey) (toi n : ℕ) (before after : FileKey → Option ℕ) → IsDistinct bytes_eq bodies
+    → n ≡ length bodies
     → key.body < n → list_any (same (file_at bodies key)) kept ≡ false → toi ≡ length kept + 1
     → ((q : FileKey) → q.body < n → before q ≡ found_in kept (file_at bodies q))
     → ((q : FileKey) → after q ≡ cond (key_same key q) (Some toi) (before q))

@@ -1,13 +1,12 @@
 -- Keys tell files apart, where they count distinct bodies.
-use Rattle.std.proofs.Common.{◌≡◌, ℕ, zero, suc, ◌<◌, Bool, true, false, ◌&&◌, ◌==◌, List, [], ◌∷◌, Option, Some, None, Bor, length, get_or, refl, sym, ap, ◌∙◌, arith}
-use Rattle.std.specs.Prelude.{map}
+use Rattle.std.proofs.Common.{◌≡◌, ℕ, zero, suc, ◌<◌, true, false, ◌&&◌, ◌==◌, List, [], ◌∷◌, Option, Some, None, Bor, length, get_or, refl, sym, ap, arith}
 use Rattle.std.specs.List.{IsDistinct, AllByRecursion}
 use Rattle.std.specs.Option.{option_eq}
 use Rattle.std.specs.Str.{bytes_eq}
 use Rattle.std.proofs.lemmas.Bool.{and_parts, eqb-true, eq-eqb, false_from_ne_true}
 use Rattle.std.proofs.lemmas.Slice.Eq.{bytes_eq-Decides}
 use Rattle.sender_plan.specs.declared.key.FileKey.{FileKey}
-use Rattle.sender_plan.specs.Content.{Content, File, same, same_kind}
+use Rattle.sender_plan.specs.Content.{File, same, same_kind}
 use Rattle.sender_plan.specs.Inner.Planning.{shown_kind, key_same, file_at}
 
 pub equal_bytes : (a b : List ℕ) → bytes_eq a b ≡ true → a ≡ b

@@ -1,5 +1,6 @@
 -- How long objects are.
-use Rattle.std.proofs.Common.{◌≡◌, ℕ, ◌+◌, ◌-◌, ◌*◌, ◌<◌, ◌≤◌, ◌^◌, Bool, true, false, List, [], ◌∷◌, ◌++◌, Option, Some, None, suc, inl, inr, length, length-append, replicate, arith}
+use Rattle.std.proofs.Common.{◌≡◌, ℕ, ◌+◌, ◌-◌, ◌*◌, ◌<◌, ◌≤◌, ◌^◌, Bool, true, false, List, [], ◌∷◌, ◌++◌, Option, Some, None, suc, inl, inr, length}
+use Rattle.std.proofs.Common.{length-append, replicate, arith}
 use Rattle.std.specs.Prelude.{map, unwrap_or}
 use Rattle.std.specs.Int.{div_ceil}
 use Rattle.std.specs.List.{join_with_byte, AllByRecursion}
@@ -11,7 +12,7 @@ use Rattle.std.proofs.lemmas.Grind.{div_ceil_times}
 use Rattle.std.proofs.Math.Nat.{mul-le-mul_left, mul-le-mul_right, le-mul_of_pos_right}
 use Rattle.oti_blocks.specs.Partition.{IsSound, sources, blocks}
 use Rattle.meta_text.specs.Fields.{Pair, line_of, written}
-use Rattle.compound_object.specs.Object.{rounded, header_length_of, layout, object_bytes}
+use Rattle.compound_object.specs.Object.{rounded, header_length_of, object_bytes}
 use Rattle.carousel_cid.specs.KnownFields.{location_name, type_name, length_name, number_name}
 use Rattle.carousel_cid.specs.IdentifierList.{comma}
 use Rattle.carousel_cid.specs.File.{type_fields, file_fields, file_bytes}

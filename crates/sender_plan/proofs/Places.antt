@@ -1,5 +1,6 @@
 -- The places of bodies among the distinct ones.
-use Rattle.std.proofs.Common.{◌≡◌, ℕ, zero, suc, ◌+◌, ◌<◌, Bool, true, false, not, cond, List, [], ◌∷◌, ◌++◌, Option, Some, None, Bor, length, get_or, refl, sym, ap, ◌∙◌, arith}
+use Rattle.std.proofs.Common.{◌≡◌, ℕ, zero, suc, ◌+◌, ◌<◌, Bool, true, false, not, cond, List, [], ◌∷◌, ◌++◌, Some, Bor, length, get_or}
+use Rattle.std.proofs.Common.{refl, sym, ap, ◌∙◌, arith}
 use Rattle.std.specs.Prelude.{map, slice_get}
 use Rattle.std.specs.List.{IsDistinct, AllByRecursion, list_any, position_or_len}
 use Rattle.std.specs.Str.{bytes_eq}
@@ -11,7 +12,8 @@ use Rattle.sender_plan.specs.Plan.{file_of}
 use Rattle.sender_plan.specs.Inner.Sets.{added}
 use Rattle.sender_plan.specs.Inner.Planning.{shown_kind, file_at, body_at}
 
-all_shown : (x : List ℕ) (keys : List (Bor (List ℕ))) → AllByRecursion (λ k. bytes_eq x k.now ≡ false) keys → AllByRecursion (λ y. bytes_eq x y ≡ false) (map (λ k. k.now) keys)
+all_shown : (x : List ℕ) (keys : List (Bor (List ℕ))) → AllByRecursion (λ k. bytes_eq x k.now ≡ false) keys
+    → AllByRecursion (λ y. bytes_eq x y ≡ false) (map (λ k. k.now) keys)
 all_shown x [] all = tt
 all_shown x (k ∷ keys) all = (all.0, all_shown x keys all.1)
 

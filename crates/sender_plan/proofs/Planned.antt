@@ -1,7 +1,8 @@
 -- What holds of a plan that nothing refuses.
-use Rattle.std.proofs.Common.{◌≡◌, ℕ, zero, suc, ◌+◌, ◌*◌, ◌<◌, ◌≤◌, ◌^◌, Bool, true, false, not, cond, ltb, List, [], ◌∷◌, ◌++◌, Option, Some, None, Bor, length, length-append, get_or, refl, sym, ap, subst, ◌∙◌, arith}
-use Rattle.std.specs.Prelude.{All, map, filter, slice_get, option_map, nat_lt, unwrap_or}
-use Rattle.std.specs.List.{list_any, position_or_len, flat_map, AllByRecursion}
+use Rattle.std.proofs.Common.{◌≡◌, ℕ, zero, suc, ◌+◌, ◌*◌, ◌≤◌, Bool, true, false, not, cond, List, [], ◌∷◌, ◌++◌, Option, Some, None}
+use Rattle.std.proofs.Common.{length, length-append, get_or, refl, ap, subst, ◌∙◌, arith}
+use Rattle.std.specs.Prelude.{All, filter, slice_get, option_map, nat_lt}
+use Rattle.std.specs.List.{flat_map, AllByRecursion}
 use Rattle.std.specs.Str.{bytes_eq}
 use Rattle.std.proofs.lemmas.Bool.{ltb-false}
 use Rattle.std.proofs.lemmas.List.{length-map}
@@ -16,10 +17,10 @@ use Rattle.sender_plan.specs.CatalogInstance.{CatalogItem, CatalogInstance}
 use Rattle.sender_plan.specs.Check.{not_rising, too_many, check_faults, most_files, most_bytes}
 use Rattle.sender_plan.specs.Names.{item_names, names_of}
 use Rattle.sender_plan.specs.Distinct.{distinct}
-use Rattle.sender_plan.specs.Content.{Content, Descriptor, same}
-use Rattle.sender_plan.specs.Plan.{body_of, contents_of, contents, files_of, file_of, objects_from, total_of, plan_faults}
-use Rattle.sender_plan.specs.Session.{SentObject, SentInstance, Session, IsSession, IsObject, IsInstance, HasObject, objects_of}
-use Rattle.sender_plan.specs.Inner.Planning.{IsSendable, HasPlaces, IsFilable, body_at}
+use Rattle.sender_plan.specs.Content.{Descriptor, same}
+use Rattle.sender_plan.specs.Plan.{contents_of, contents, files_of, file_of, objects_from, total_of, plan_faults}
+use Rattle.sender_plan.specs.Session.{SentObject, SentInstance, Session, IsObject, IsInstance, objects_of}
+use Rattle.sender_plan.specs.Inner.Planning.{IsSendable, HasPlaces}
 
 -- ---- what isn't refused
 

@@ -1,8 +1,8 @@
 -- The session that is planned from a catalog, the bodies of its files and parameters (RFC 6968, section 3).
-use Rattle.std.specs.Prelude.{◌≡◌, ℕ, ◌+◌, ◌≤◌, List, [], ◌∷◌, ◌++◌, Option, length, map, nat_lt, slice_index_or}
+use Rattle.std.specs.Prelude.{ℕ, ◌+◌, List, [], ◌∷◌, ◌++◌, Option, length, map, nat_lt, slice_index_or}
 use Rattle.std.specs.List.{flat_map, position_or_len, sum_by}
 use Rattle.std.specs.Str.{bytes_eq}
-use Rattle.wire_bytes.specs.FirstFault.{fault_when, first_fault}
+use Rattle.wire_bytes.specs.FirstFault.{fault_when}
 use Rattle.oti_blocks.specs.Partition.{ObjectInformation}
 use Rattle.carousel_cid.specs.Repeats.{first_places}
 use Rattle.carousel_cid.specs.File.{file_bytes}

@@ -1,6 +1,7 @@
 //! The session of a catalog.
 
-ghost use Rattle.std.specs.Prelude.{◌≡◌, ◌≢◌, ◌≤◌, ◌<◌, ◌+◌, ◌^◌, ◌∷◌, ◌++◌, ℕ, List, [], length, map, take, Some, None, All, IfOk, OnOk, IfErr, unwrap_or, slice_get, true};
+ghost use Rattle.std.specs.Prelude.{◌≡◌, ◌≢◌, ◌≤◌, ◌<◌, ◌+◌, ◌^◌, ◌∷◌, ◌++◌, ℕ, List, []};
+ghost use Rattle.std.specs.Prelude.{length, map, take, Some, None, All, IfOk, OnOk, IfErr, unwrap_or, slice_get, true};
 ghost use Rattle.std.specs.List.{IsDistinct, flat_map, AllByRecursion, list_any, position_or_len};
 ghost use Rattle.std.specs.Str.{bytes_eq};
 ghost use Rattle.wire_bytes.specs.FirstFault.{first_fault};
@@ -100,12 +101,7 @@ fn session(
         files: IndexMap::new(alloc),
     };
     let sent = sent_all(&mut planner, &names, &bodies.places, instances)?;
-    Ok(Session::new(
-        params.tsi,
-        planner.objects,
-        sent,
-        params.cycles,
-    ))
+    Ok(Session::new(params.tsi, planner.objects, sent, params.cycles))
 }
 
 /// How many bytes the bodies have together.
@@ -170,7 +166,7 @@ fn sent<'a>(
     ensures different { IfOk result (λ s. are_different s.listed ≡ true) }
     ensures listed { IfOk result (λ s. (lists : specs.CatalogInstance → List ℕ) (kept : List Content) → Keeps lists kept planner.old → (more : List Content)
         → let files = files_of (body_at names.now.keys places.now planner.old.bodies.now) instance.now in
-          s.listed ≡ first_places (map (place_in (added_all same kept files ++ more)) files)) }
+        s.listed ≡ first_places (map (place_in (added_all same kept files ++ more)) files)) }
     ensures toi { IfOk result (λ s. (lists : specs.CatalogInstance → List ℕ) (kept : List Content) → Keeps lists kept planner.old
         → s.descriptor_toi ≡ length (added_all same kept (files_of (body_at names.now.keys places.now planner.old.bodies.now) instance.now)) + 1) }
     ensures keeps { IfOk result (λ s. (lists : specs.CatalogInstance → List ℕ) (kept : List Content) → Keeps lists kept planner.old → lists instance.now ≡ s.listed
@@ -205,7 +201,7 @@ fn listed<'a>(
         → Keeps lists (added_all same kept (map (file_of (body_at names.now.keys places.now planner.old.bodies.now)) items.now)) planner.new) }
     ensures listed { IfOk result (λ v. (lists : specs.CatalogInstance → List ℕ) (kept : List Content) → Keeps lists kept planner.old → (more : List Content)
         → let files = map (file_of (body_at names.now.keys places.now planner.old.bodies.now)) items.now in
-          v.items ≡ first_places (map (place_in (added_all same kept files ++ more)) files)) }
+        v.items ≡ first_places (map (place_in (added_all same kept files ++ more)) files)) }
 {
     let alloc = *planner.objects.allocator();
     let mut listed = IndexSet::new(alloc);

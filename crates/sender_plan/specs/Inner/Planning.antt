@@ -1,5 +1,6 @@
 -- The stages of a plan.
-use Rattle.std.specs.Prelude.{◌≡◌, ℕ, ◌+◌, ◌<◌, ◌≤◌, ◌==◌, ◌&&◌, Bool, true, if◌then◌else◌, List, [], ◌∷◌, Option, Some, None, length, map, slice_index_or, option_copied, unwrap_or}
+use Rattle.std.specs.Prelude.{◌≡◌, ℕ, ◌+◌, ◌<◌, ◌≤◌, ◌==◌, ◌&&◌, Bool, true, if◌then◌else◌, List, [], Option, Some, None, length, map}
+use Rattle.std.specs.Prelude.{slice_index_or, option_copied, unwrap_or}
 use Rattle.std.specs.List.{list_any, position_or_len, IsDistinct, AllByRecursion}
 use Rattle.std.specs.Option.{option_eq}
 use Rattle.std.specs.Borrow.{Bor}

@@ -1,4 +1,4 @@
-use Rattle.std.proofs.Common.{◌≡◌, ℕ, ◌+◌, ◌^◌, ◌<◌, ◌++◌, ◌∷◌, [], List, length, take, true, refl, sym, ap, subst, ◌∙◌, arith}
+use Rattle.std.proofs.Common.{◌≡◌, ℕ, ◌+◌, ◌^◌, ◌<◌, ◌++◌, ◌∷◌, [], List, length, take, true, sym, ap, subst, ◌∙◌, arith}
 use Rattle.std.specs.Prelude.{map}
 use Rattle.std.specs.List.{AllByRecursion}
 use Rattle.std.proofs.lemmas.List.{take_more, take_all, map-append}
@@ -46,7 +46,7 @@ loop-item-preserved c =
           (told.keeps lists (added_all same kept files) (before.keeps lists kept keeps))));
       listed = λ lists kept keeps more.
           let is = subst (λ (b : List ℕ → List ℕ). toi ≡ place_in (added same (added_all same kept files) (file_of b item)) (file_of b item)) same_body
-              (told.toi lists (added_all same kept files) (before.keeps lists kept keeps)) in
+          (told.toi lists (added_all same kept files) (before.keeps lists kept keeps)) in
           subst (λ (fs : List Content). c.insert.new.self.keys ≡ added_all number_same [] (map (place_in (added_all same kept fs ++ more)) fs)) (sym front)
           (listed_more kept files file toi keys c.insert.new.self.keys (before.listed lists kept keeps) is c.in_ok-insert.ensures.keys more);
     }

@@ -2,7 +2,7 @@
 use Rattle.std.proofs.Common.{◌≡◌, ◌≤◌, ◌<◌, ◌^◌, ◌++◌, ℕ, List, [], length, take}
 use Rattle.std.specs.Prelude.{map}
 use Rattle.std.specs.List.{AllByRecursion}
-use Rattle.sender_plan.specs.CatalogInstance.{CatalogItem, CatalogInstance}
+use Rattle.sender_plan.specs.CatalogInstance.{CatalogInstance}
 use Rattle.sender_plan.specs.Content.{Content, same}
 use Rattle.sender_plan.specs.Plan.{file_of}
 use Rattle.sender_plan.specs.Inner.Sets.{added_all}

@@ -1,5 +1,5 @@
-use Rattle.std.proofs.Common.{◌≡◌, ◌<◌, Bor, List, ℕ, Some, None, length, sym, ap, ◌∙◌, arith}
-use Rattle.std.specs.Prelude.{map, slice_get, position}
+use Rattle.std.proofs.Common.{Bor, List, ℕ, sym, ap, ◌∙◌, arith}
+use Rattle.std.specs.Prelude.{slice_get}
 use Rattle.std.specs.Str.{bytes_eq}
 use Rattle.meta_text.proofs.Public.{found_at, none_at, any_without_place}
 use Rattle.sender_plan.proofs.Sets.{any_shown}
@@ -18,6 +18,6 @@ returns-in-None c =
     let name = c.args.name.now in
     let keys = c.args.names.now.keys in
     let none = any_without_place (λ (k : Bor (List ℕ)). bytes_eq name k.now) keys
-        (none_at (λ (k : Bor (List ℕ)). bytes_eq name k.now) keys (sym c.get_index_of.ensures.index ∙ c.in-None.is)) in
+    (none_at (λ (k : Bor (List ℕ)). bytes_eq name k.now) keys (sym c.get_index_of.ensures.index ∙ c.in-None.is)) in
     let gone = sym (any_shown (bytes_eq name) keys) ∙ none in
     absurd (let known = c.requires.known in cc)

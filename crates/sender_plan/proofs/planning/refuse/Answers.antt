@@ -1,4 +1,4 @@
-use Rattle.std.proofs.Common.{◌≤◌, length, arith}
+use Rattle.std.proofs.Common.{arith}
 use Rattle.sender_plan.proofs.Planned.{none_checked, few_files, few_names}
 use Rattle.sender_plan.proofs.planning.refuse.Goals as goal
 

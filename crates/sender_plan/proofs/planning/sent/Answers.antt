@@ -2,7 +2,7 @@ use Rattle.std.proofs.Common.{◌≡◌, ◌+◌, ◌++◌, List, length, sym, a
 use Rattle.std.specs.Prelude.{map}
 use Rattle.carousel_cid.specs.Repeats.{first_places}
 use Rattle.sender_plan.specs.CatalogInstance.{CatalogItem, CatalogInstance}
-use Rattle.sender_plan.specs.Content.{Content, same}
+use Rattle.sender_plan.specs.Content.{same}
 use Rattle.sender_plan.specs.Plan.{file_of, files_of}
 use Rattle.sender_plan.specs.Inner.Sets.{added_all}
 use Rattle.sender_plan.specs.Inner.Planning.{Keeps, place_in, body_at}
@@ -32,6 +32,6 @@ returns-clause-keeps c =
     let items = c.as_slice.ensures.value ∙ ap (λ (x : CatalogInstance). x.items) c.instance.view_is in
     λ lists kept keeps is.
     let kept_files = subst (λ (is : List CatalogItem). Keeps lists (added_all same kept (map (file_of body) is)) c.listed.new.planner) items
-        (c.in_ok-listed.ensures.keeps lists kept keeps) in
+    (c.in_ok-listed.ensures.keeps lists kept keeps) in
     c.in_ok-descriptor_toi.ensures.ok lists (added_all same kept (files_of body c.args.instance.now)) c.args.instance.now kept_files
     (sym (ap (λ (x : CatalogInstance). x.number) c.instance.view_is)) (is ∙ sym c.as_slice-2.ensures.value)

@@ -7,7 +7,6 @@ use Rattle.sender_plan.specs.CatalogInstance.{CatalogInstance}
 use Rattle.sender_plan.specs.Check.{not_rising}
 use Rattle.sender_plan.specs.Content.{Content, Descriptor, same, identifier}
 use Rattle.sender_plan.specs.Plan.{files_of, contents, content_bytes, listed_of, sent_of, objects_from}
-use Rattle.sender_plan.specs.Session.{SentInstance}
 use Rattle.sender_plan.specs.Inner.Sets.{added_all}
 use Rattle.sender_plan.specs.Inner.Planning.{Keeps, HasPlaces, place_in, body_at}
 use Rattle.sender_plan.proofs.Sets.{added_all-distinct}
@@ -55,8 +54,8 @@ loop-instance-preserved c =
     let kept = added_all same [] (contents body front) in
     let held = added_all same kept (files_of body instance) in
     let listed = subst (λ (b : List ℕ → List ℕ). (more : List Content)
-        → value.listed ≡ first_places (map (place_in (added_all same kept (files_of b instance) ++ more)) (files_of b instance))) same_body
-        (told.listed lists kept before.keeps) in
+    → value.listed ≡ first_places (map (place_in (added_all same kept (files_of b instance) ++ more)) (files_of b instance))) same_body
+    (told.listed lists kept before.keeps) in
     let toi : value.descriptor_toi ≡ length held + 1 =
     told.toi lists kept before.keeps ∙ ap (λ (b : List ℕ → List ℕ). length (added_all same kept (files_of b instance)) + 1) same_body in
     let is_listed : value.listed ≡ lists instance =

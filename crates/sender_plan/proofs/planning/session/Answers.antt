@@ -1,4 +1,4 @@
-use Rattle.std.proofs.Common.{◌≡◌, ◌<◌, ◌≤◌, ◌^◌, ◌+◌, ℕ, List, [], Some, Bor, length, get_or, rules, sym, ap, subst, ◌∙◌, arith}
+use Rattle.std.proofs.Common.{◌≡◌, ◌<◌, ◌≤◌, ◌+◌, ℕ, List, [], Some, Bor, length, get_or, rules, sym, ap, subst, ◌∙◌, arith}
 use Rattle.std.specs.Prelude.{All, map, slice_get, unwrap_or}
 use Rattle.std.specs.List.{AllByRecursion}
 use Rattle.std.proofs.lemmas.List.{length-map}
@@ -72,7 +72,7 @@ new-requires-4 c =
     let texts = map (content_bytes (listed_of all body)) (distinct same all) in
     let none = none_refuses c.args.catalog.now c.args.bodies.now params c.requires.sound in
     let few = subst (λ (is : List CatalogInstance). AllByRecursion (λ i. length i.items ≤ 4096) is) (sym c.as_slice-instances.ensures.instances)
-        (few_files 1 c.args.catalog.now none.few) in
+    (few_files 1 c.args.catalog.now none.few) in
     let less : length instances ≤ 256 = subst (λ (is : List CatalogInstance). length is ≤ 256) (sym c.as_slice-instances.ensures.instances) c.as_slice-instances.ensures.few in
     record {
       tsi = search rules;

@@ -1,4 +1,4 @@
-use Rattle.std.proofs.Common.{◌≤◌, length, subst, sym, arith}
+use Rattle.std.proofs.Common.{arith}
 use Rattle.sender_plan.proofs.Lengths.{descriptor_length, sound_information}
 use Rattle.sender_plan.proofs.Keeping.{descriptor_kept}
 use Rattle.sender_plan.proofs.planner.Planner.descriptor.Goals as goal
