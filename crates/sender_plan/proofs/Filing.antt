@@ -98,7 +98,8 @@ pub are_filable : (instances : List CatalogInstance) (bodies : List (List ℕ)) 
     → All (λ i. All (IsFilable names places held) i.items) instances
 are_filable instances bodies names places held named is short texts = λ at d within at' d' within'.
     let item = get_or (get_or instances at d).items at' d' in
-    let nested = each_at (λ i. AllByRecursion (λ item. list_any (bytes_eq item.name) (names_of instances) ≡ true) i.items) instances (names_known instances) at d within in
+    let nested = each_at (λ i. AllByRecursion (λ item. list_any (bytes_eq item.name) (names_of instances) ≡ true) i.items)
+    instances (names_known instances) at d within in
     let known = each_at (λ item. list_any (bytes_eq item.name) (names_of instances) ≡ true) (get_or instances at d).items nested at' d' within' in
     record {
       known = ap (list_any (bytes_eq item.name)) named ∙ known;

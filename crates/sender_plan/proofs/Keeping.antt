@@ -141,12 +141,19 @@ pub keeps_file : (listed : CatalogInstance → List ℕ) (kept : List Content) (
 keeps_file listed kept key old new toi bytes keeps distinct within none is made params bodies pushed updates =
     let content = file_at (map (λ b. b.now) old.bodies.now) key in
     let count : length old.bodies.now ≡ length (map (λ b. b.now) old.bodies.now) = sym (length-map old.bodies.now (λ (b : Bor (List ℕ)). b.now)) in
-    let next : toi ≡ length kept + 1 = omega (arith, ap length keeps.objects, length-objects old.params 1 (map (content_bytes listed) kept), length-map kept (content_bytes listed)) in
+    let next : toi ≡ length kept + 1 = omega (
+      arith,
+      ap length keeps.objects,
+      length-objects old.params 1 (map (content_bytes listed) kept),
+      length-map kept (content_bytes listed),
+    ) in
     let objects = objects_pushed old.params listed kept content old.objects.items new.objects.items bytes keeps.objects made pushed in
-    let files = files_more (map (λ b. b.now) old.bodies.now) kept key toi (length old.bodies.now) (get key_same old.files) (get key_same new.files) distinct count within none next keeps.files updates in
+    let files = files_more (map (λ b. b.now) old.bodies.now) kept key toi (length old.bodies.now)
+    (get key_same old.files) (get key_same new.files) distinct count within none next keeps.files updates in
     subst (λ ks. Keeps listed ks new) (sym (added_new kept content none)) (record {
       objects = objects ∙ ap (λ p. objects_from p 1 (map (content_bytes listed) (kept ++ content ∷ []))) (sym params);
-      files = subst (λ (bs : List (Bor (List ℕ))). (q : FileKey) → q.body < length bs → get key_same new.files q ≡ found_in (kept ++ content ∷ []) (file_at (map (λ b. b.now) bs) q)) (sym bodies) files;
+      files = subst (λ (bs : List (Bor (List ℕ))). (q : FileKey) → q.body < length bs
+          → get key_same new.files q ≡ found_in (kept ++ content ∷ []) (file_at (map (λ b. b.now) bs) q)) (sym bodies) files;
     })
 
 -- a descriptor more
@@ -169,7 +176,8 @@ keeps_descriptor lists kept instance old new number listed bytes keeps numbered 
 pub descriptor_kept : {V : Type 0} (r : Result V AllocError) (old new : Planner) (number : ℕ) (listed bytes : List ℕ) → bytes ≡ descriptor_bytes number listed
     → new.params ≡ old.params → new.bodies.now ≡ old.bodies.now → new.files ≡ old.files
     → OnOk r (new.objects.items ≡ old.objects.items ++ record { toi = length old.objects.items + 1; oti = information old.params bytes; bytes = bytes } ∷ [])
-    → OnOk r ((lists : CatalogInstance → List ℕ) (kept : List Content) (instance : CatalogInstance) → Keeps lists kept old → instance.number ≡ number → lists instance ≡ listed
+    → OnOk r ((lists : CatalogInstance → List ℕ) (kept : List Content) (instance : CatalogInstance)
+    → Keeps lists kept old → instance.number ≡ number → lists instance ≡ listed
     → Keeps lists (kept ++ Descriptor instance ∷ []) new)
 descriptor_kept (Ok v) old new number listed bytes made params bodies files pushed = λ lists kept instance keeps numbered is.
     keeps_descriptor lists kept instance old new number listed bytes keeps numbered is made params bodies files pushed

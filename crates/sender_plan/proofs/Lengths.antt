@@ -23,7 +23,8 @@ use Rattle.sender_plan.specs.Plan.{information}
 rounded_bounds : (n : ℕ) → (n ≤ rounded n) × (rounded n ≤ n + 3)
 rounded_bounds n = (omega arith, omega arith)
 
-length_tail : (metadata body : List ℕ) → (length metadata + length body ≤ length (metadata ++ replicate (rounded (header_length_of metadata) - header_length_of metadata) 0 ++ body))
+length_tail : (metadata body : List ℕ)
+    → (length metadata + length body ≤ length (metadata ++ replicate (rounded (header_length_of metadata) - header_length_of metadata) 0 ++ body))
     × (length (metadata ++ replicate (rounded (header_length_of metadata) - header_length_of metadata) 0 ++ body) ≤ length metadata + length body + 3)
 length_tail metadata body =
     let h = header_length_of metadata in

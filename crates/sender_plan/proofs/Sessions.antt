@@ -120,7 +120,8 @@ module _ (body : List ℕ → List ℕ) (front : List CatalogInstance) (instance
       let none = new_descriptor rest rising in
       let all = whole rest none in
       let itself = content_itself (Descriptor instance) in
-      let there : list_any p (with_files ++ Descriptor instance ∷ []) ≡ true = list_any-append p with_files (Descriptor instance ∷ []) ∙ (λ i. none i || (itself i || false)) in
+      let there : list_any p (with_files ++ Descriptor instance ∷ []) ≡ true =
+      list_any-append p with_files (Descriptor instance ∷ []) ∙ (λ i. none i || (itself i || false)) in
       is ∙ ap (λ n. n + 1) (sym (ap (position_or_len p) all.1 ∙ place_in_front p (with_files ++ Descriptor instance ∷ []) all.0 there
       ∙ place_at_end p with_files (Descriptor instance) none itself))
 
@@ -187,5 +188,7 @@ has_places body kept instance sent is toi different =
 
 pub more_places : (m n : ℕ) (sent : List SentInstance) → m ≤ n → AllByRecursion (HasPlaces m) sent → AllByRecursion (HasPlaces n) sent
 more_places m n [] more all = tt
-more_places m n (s ∷ sent) more all =
-    (record { known = ((all.0.known.0.0, omega (arith, all.0.known.0.1, more)), all_more m n s.listed more all.0.known.1); different = all.0.different }, more_places m n sent more all.1)
+more_places m n (s ∷ sent) more all = (
+  record { known = ((all.0.known.0.0, omega (arith, all.0.known.0.1, more)), all_more m n s.listed more all.0.known.1); different = all.0.different },
+  more_places m n sent more all.1,
+)

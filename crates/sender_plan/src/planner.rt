@@ -47,7 +47,8 @@ impl<'a, 'b> Planner<'a, 'b> {
         ensures ok { IfOk result (λ toi. (listed : CatalogInstance → List ℕ) (kept : List Content) → Keeps listed kept self.old
             → Keeps listed (added same kept (file_at (map (λ b. b.now) self.old.bodies.now) key.entry)) self.new) }
         ensures toi { IfOk result (λ toi. (listed : CatalogInstance → List ℕ) (kept : List Content) → Keeps listed kept self.old
-            → toi ≡ position_or_len (same (file_at (map (λ b. b.now) self.old.bodies.now) key.entry)) (added same kept (file_at (map (λ b. b.now) self.old.bodies.now) key.entry)) + 1) }
+            → toi ≡ position_or_len (same (file_at (map (λ b. b.now) self.old.bodies.now) key.entry))
+            (added same kept (file_at (map (λ b. b.now) self.old.bodies.now) key.entry)) + 1) }
     {
         if let Some(toi) = self.files.get(&key).copied() {
             return Ok(toi);

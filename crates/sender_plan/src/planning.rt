@@ -170,7 +170,8 @@ fn sent<'a>(
     ensures toi { IfOk result (λ s. (lists : specs.CatalogInstance → List ℕ) (kept : List Content) → Keeps lists kept planner.old
         → s.descriptor_toi ≡ length (added_all same kept (files_of (body_at names.now.keys places.now planner.old.bodies.now) instance.now)) + 1) }
     ensures keeps { IfOk result (λ s. (lists : specs.CatalogInstance → List ℕ) (kept : List Content) → Keeps lists kept planner.old → lists instance.now ≡ s.listed
-        → Keeps lists (added_all same kept (files_of (body_at names.now.keys places.now planner.old.bodies.now) instance.now) ++ Descriptor instance.now ∷ []) planner.new) }
+        → Keeps lists (added_all same kept (files_of (body_at names.now.keys places.now planner.old.bodies.now) instance.now)
+        ++ Descriptor instance.now ∷ []) planner.new) }
 {
     let listed = listed(planner, names, places, instance.items.as_slice())?;
     let descriptor_toi = planner.descriptor(instance.number, listed.as_slice())? as u128;

@@ -71,6 +71,8 @@ returns-clause-listed c =
     if_ok_made (λ v. v.items) (λ ts. (lists : CatalogInstance → List ℕ) (kept : List Content) → Keeps lists kept c.args.planner.now → (more : List Content)
     → ts ≡ first_places (map (place_in (added_all same kept (map (file_of body) items) ++ more)) (map (file_of body) items)))
     c.from_slice.result c.as_slice.result.now c.from_slice.ensures.items (λ lists kept keeps more.
-    subst (λ (is : List CatalogItem). c.as_slice.result.now ≡ first_places (map (place_in (added_all same kept (map (file_of body) is) ++ more)) (map (file_of body) is))) all
+    subst (λ (is : List CatalogItem). c.as_slice.result.now
+    ≡ first_places (map (place_in (added_all same kept (map (file_of body) is) ++ more)) (map (file_of body) is))) all
     (c.as_slice.ensures.keys ∙ c.loop-item.invariant.listed lists kept keeps more
-    ∙ added_all-first_places (map (place_in (added_all same kept (map (file_of body) (take c.loop-item.item-index items)) ++ more)) (map (file_of body) (take c.loop-item.item-index items)))))
+    ∙ added_all-first_places (map (place_in (added_all same kept (map (file_of body) (take c.loop-item.item-index items)) ++ more))
+    (map (file_of body) (take c.loop-item.item-index items)))))

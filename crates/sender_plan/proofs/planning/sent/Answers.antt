@@ -14,7 +14,8 @@ returns-clause-listed c =
     let body = body_at c.args.names.now.keys c.args.places.now c.args.planner.now.bodies.now in
     let items = c.as_slice.ensures.value ∙ ap (λ (x : CatalogInstance). x.items) c.instance.view_is in
     λ lists kept keeps more.
-    subst (λ (is : List CatalogItem). c.in_ok-listed.listed.items ≡ first_places (map (place_in (added_all same kept (map (file_of body) is) ++ more)) (map (file_of body) is)))
+    subst (λ (is : List CatalogItem). c.in_ok-listed.listed.items
+    ≡ first_places (map (place_in (added_all same kept (map (file_of body) is) ++ more)) (map (file_of body) is)))
     items (c.in_ok-listed.ensures.listed lists kept keeps more)
 
 pub returns-clause-toi : goal.returns-clause-toi
@@ -23,7 +24,8 @@ returns-clause-toi c =
     let items = c.as_slice.ensures.value ∙ ap (λ (x : CatalogInstance). x.items) c.instance.view_is in
     λ lists kept keeps.
     c.in_ok-descriptor_toi.ensures.toi
-    ∙ ap (λ n. n + 1) (length_kept lists (added_all same kept (map (file_of body) c.as_slice.result.now)) c.listed.new.planner (c.in_ok-listed.ensures.keeps lists kept keeps)
+    ∙ ap (λ n. n + 1) (length_kept lists (added_all same kept (map (file_of body) c.as_slice.result.now))
+    c.listed.new.planner (c.in_ok-listed.ensures.keeps lists kept keeps)
     ∙ ap (λ (is : List CatalogItem). length (added_all same kept (map (file_of body) is))) items)
 
 pub returns-clause-keeps : goal.returns-clause-keeps

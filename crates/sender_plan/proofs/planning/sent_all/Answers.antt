@@ -92,7 +92,8 @@ returns-clause-objects c =
     let all = contents body instances in
     let before = c.loop-instance.invariant in
     before.keeps.objects
-    ∙ (λ j. objects_from (before.params j) 1 (map (content_bytes (listed_of all body)) (added_all same [] (contents body (take_all c.loop-instance.instance-index instances c.loop-instance-test.false j)))))
+    ∙ (λ j. objects_from (before.params j) 1 (map (content_bytes (listed_of all body))
+    (added_all same [] (contents body (take_all c.loop-instance.instance-index instances c.loop-instance-test.false j)))))
     ∙ ap (λ (ks : List Content). objects_from c.args.planner.now.params 1 (map (content_bytes (listed_of all body)) ks)) (added_all-distinct same same_transitive all)
 
 pub returns-clause-instances : goal.returns-clause-instances

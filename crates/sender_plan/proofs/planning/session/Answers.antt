@@ -73,7 +73,8 @@ new-requires-4 c =
     let none = none_refuses c.args.catalog.now c.args.bodies.now params c.requires.sound in
     let few = subst (λ (is : List CatalogInstance). AllByRecursion (λ i. length i.items ≤ 4096) is) (sym c.as_slice-instances.ensures.instances)
     (few_files 1 c.args.catalog.now none.few) in
-    let less : length instances ≤ 256 = subst (λ (is : List CatalogInstance). length is ≤ 256) (sym c.as_slice-instances.ensures.instances) c.as_slice-instances.ensures.few in
+    let less : length instances ≤ 256 = subst (λ (is : List CatalogInstance). length is ≤ 256)
+    (sym c.as_slice-instances.ensures.instances) c.as_slice-instances.ensures.few in
     record {
       tsi = search rules;
       few = omega (

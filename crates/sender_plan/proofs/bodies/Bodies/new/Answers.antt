@@ -19,10 +19,12 @@ loop-body-preserved c =
     let place = c.in_ok-place.place in
     let stored = c.in_ok-place.ensures.stored in
     let made : new ≡ added bytes_eq keys body =
-    ap (map (λ (k : Bor (List ℕ)). k.now)) c.in_ok-place.ensures.keys ∙ map-added c.loop-body.distinct.keys c.as_slice.result ∙ ap (added bytes_eq keys) c.as_slice.ensures in
+    ap (map (λ (k : Bor (List ℕ)). k.now)) c.in_ok-place.ensures.keys
+    ∙ map-added c.loop-body.distinct.keys c.as_slice.result ∙ ap (added bytes_eq keys) c.as_slice.ensures in
     let shown : stored.0.now ≡ body = sym (equal_bytes c.as_slice.result.now stored.0.now stored.2) ∙ c.as_slice.ensures in
     let stands : slice_get new place ≡ Some body =
     slice_get-map (λ (k : Bor (List ℕ)). k.now) c.insert_full.new.self.keys place ∙ ap (option_map (λ (k : Bor (List ℕ)). k.now)) stored.1 ∙ ap (λ b. Some b) shown in
-    let front : take (i + 1) bodies ≡ take i bodies ++ body ∷ [] = take_more bodies i body c.loop-body-test.true ∙ ap (λ b. take i bodies ++ b ∷ []) (sym c.body-item.is) in
+    let front : take (i + 1) bodies ≡ take i bodies ++ body ∷ [] = take_more bodies i body c.loop-body-test.true
+    ∙ ap (λ b. take i bodies ++ b ∷ []) (sym c.body-item.is) in
     ap (map (slice_get new)) c.in_ok-push.ensures.items ∙ places_more keys new body place c.loop-body.places.items (take i bodies) c.loop-body.invariant made stands
     ∙ ap (map (λ (b : List ℕ). Some b)) (sym front)

@@ -27,7 +27,8 @@ returns-clause-ok c = λ listed kept keeps.
     let content = file_at bodies c.args.key in
     let got : get key_same planner.files c.args.key ≡ None = sym c.get.ensures.value ∙ sym c.copied.ensures ∙ c.in_default.is in
     let none = found_none kept content (sym (keeps.files c.args.key c.requires.body) ∙ got) in
-    let made = c.in_ok-bytes.ensures.bytes ∙ ap (file_bytes c.args.key.location.now (shown_kind c.args.key.kind)) (body_shown planner.bodies.now c.args.key.body _ c.requires.body) in
+    let made = c.in_ok-bytes.ensures.bytes ∙ ap (file_bytes c.args.key.location.now (shown_kind c.args.key.kind))
+    (body_shown planner.bodies.now c.args.key.body _ c.requires.body) in
     let push = c.in_ok-toi.ensures in
     keeps_file listed kept c.args.key planner
     (record { params = c.push.new.self.params; bodies = c.push.new.self.bodies; objects = c.push.new.self.objects; files = c.insert.new.self })
@@ -43,13 +44,21 @@ returns-clause-toi c = λ listed kept keeps.
     let none = found_none kept content (sym (keeps.files c.args.key c.requires.body) ∙ got) in
     let place = place_at_end (same content) kept content none (file_itself bodies c.args.key) in
     let last : position_or_len (same content) (added same kept content) ≡ length kept = ap (position_or_len (same content)) (added_new kept content none) ∙ place in
-    omega (arith, last, c.in_ok-toi.ensures.toi, ap length keeps.objects, length-objects planner.params 1 (map (content_bytes listed) kept), length-map kept (content_bytes listed))
+    omega (
+      arith,
+      last,
+      c.in_ok-toi.ensures.toi,
+      ap length keeps.objects,
+      length-objects planner.params 1 (map (content_bytes listed) kept),
+      length-map kept (content_bytes listed),
+    )
 
 pub push-requires-clause-sound : goal.push-requires-clause-sound
 push-requires-clause-sound c =
     let planner = c.args.self.now in
     let ready = c.requires.ready in
-    let made = c.in_ok-bytes.ensures.bytes ∙ ap (file_bytes c.args.key.location.now (shown_kind c.args.key.kind)) (body_shown planner.bodies.now c.args.key.body _ c.requires.body) in
+    let made = c.in_ok-bytes.ensures.bytes ∙ ap (file_bytes c.args.key.location.now (shown_kind c.args.key.kind))
+    (body_shown planner.bodies.now c.args.key.body _ c.requires.body) in
     let size = file_length c.args.key.location.now (shown_kind c.args.key.kind) _ c.requires.short c.requires.texts in
     λ fits. sound_information planner.params c.in_ok-bytes.bytes.items ready.symbol_from ready.symbol_to ready.some_block ready.block_within
     fits (rw made size.0) (rw made (omega (arith, size.1)))
