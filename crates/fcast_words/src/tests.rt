@@ -1,5 +1,3 @@
-mod ranges;
-
 use super::*;
 use meta_text::Label;
 use std::alloc::{AllocError, Global};
