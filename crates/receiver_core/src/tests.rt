@@ -1,8 +1,0 @@
-mod arrivals;
-mod costs;
-mod datagrams;
-mod instances;
-mod objects;
-mod standings;
-mod symbols;
-mod trial;
