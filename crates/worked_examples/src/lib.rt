@@ -4,8 +4,6 @@
 #[cfg(test)]
 mod budgets;
 #[cfg(test)]
-mod dumps;
-#[cfg(test)]
 mod failures;
 #[cfg(test)]
 mod logs;
