@@ -20,5 +20,6 @@ pub use file_of::FileOf;
 pub use identifiers::Identifiers;
 pub use instance::Instance;
 pub use kind::{Cause, Kind};
+pub use number::number_below;
 pub use reading::{classify, kind_of};
 pub use writing::{write_descriptor, write_file};

@@ -6,7 +6,7 @@ ghost use Rattle.carousel_cid.specs.Number as specs;
 ///
 /// There may be any number of digits: a value stays at the bound once it is there.
 #[tactic(auto, unfolding(crate::specs::Number::number_below))]
-pub(crate) fn number_below(bound: u128, text: &[u8]) -> Option<u128>
+pub fn number_below(bound: u128, text: &[u8]) -> Option<u128>
     requires { bound ≤ 2 ^ 112 }
     ensures number { result ≡ specs.number_below bound text.now }
     ensures below { ForSome result (λ n. n < bound) }

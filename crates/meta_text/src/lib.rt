@@ -18,7 +18,7 @@ pub use fault::FieldFault;
 pub use field::Field;
 pub use fields::Fields;
 pub use label::Label;
-pub use lines::{place_of, split_line, without_return};
+pub use lines::{clean_text, place_of, split_line, without_return};
 pub use text::{is_name, is_value};
 
 #[cfg(test)]

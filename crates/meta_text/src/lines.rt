@@ -52,7 +52,7 @@ pub(crate) fn pair_in(line: &[u8], number: u64) -> Result<(&str, &str), FieldFau
     let Some(name) = name_from(&line[..colon]) else {
         return Err(FieldFault::BadName { line: number });
     };
-    let Some(value) = value_from(text::trimmed(&line[colon + 1..])) else {
+    let Some(value) = clean_text(text::trimmed(&line[colon + 1..])) else {
         return Err(FieldFault::BadValue { line: number });
     };
     Ok((name, value))
@@ -69,7 +69,8 @@ fn name_from(bytes: &[u8]) -> Option<&str>
     }
 }
 
-fn value_from(bytes: &[u8]) -> Option<&str>
+/// Bytes as a text, where they are UTF-8 without control characters other than the tab.
+pub fn clean_text(bytes: &[u8]) -> Option<&str>
     ensures text { IfSome result (λ t. t.now ≡ bytes.now) }
     ensures clean { IfSome result (λ t. is_clean bytes.now ≡ true) }
     ensures none { IfNone result (is_clean bytes.now ≡ false) }

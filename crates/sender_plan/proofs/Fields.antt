@@ -6,7 +6,7 @@ use Rattle.std.proofs.lemmas.Bool.{and_parts, or_parts, false_from_ne_true}
 use Rattle.std.proofs.lemmas.List.{reverse-reverse}
 use Rattle.std.proofs.lemmas.List.Splits.{length-slice_split}
 use Rattle.std.proofs.lemmas.Slice.Eq.{bytes_eq-Decides}
-use Rattle.std.proofs.lemmas.Str.{is_utf8-from_IsUtf8, IsUtf8-from_is_utf8}
+use Rattle.std.proofs.lemmas.Str.{is_utf8-from_IsUtf8}
 use Rattle.meta_text.specs.Text.{is_value_byte, is_clean, without_leading, trimmed, IsValue}
 use Rattle.meta_text.proofs.Public.{all_reversed}
 use Rattle.sender_plan.specs.CatalogLine.{is_tab, fields_of, instance_word, file_word, is_instance, is_file, begins_with_space, is_bad_text}
@@ -44,11 +44,8 @@ unlike a b differ = false_from_ne_true (bytes_eq a b) (λ same. differ ((bytes_e
 
 -- ---- a text that is UTF-8 is clean by its bytes
 
-pub clean_by_bytes : (text : List ℕ) → IsUtf8 text → list_all is_value_byte text ≡ is_clean text
+clean_by_bytes : (text : List ℕ) → IsUtf8 text → list_all is_value_byte text ≡ is_clean text
 clean_by_bytes text utf8 = ap (λ t. t && list_all is_value_byte text) (sym (is_utf8-from_IsUtf8 text utf8))
-
-pub not_clean : (text : List ℕ) → ¬ (IsUtf8 text) → is_clean text ≡ false
-not_clean text none = false_from_ne_true (is_clean text) (λ is. none (IsUtf8-from_is_utf8 text (and_parts (is_utf8 text) (list_all is_value_byte text) is).0))
 
 pub clean_bytes : (text : List ℕ) → is_clean text ≡ true → list_all is_value_byte text ≡ true
 clean_bytes text clean = (and_parts (is_utf8 text) (list_all is_value_byte text) clean).1

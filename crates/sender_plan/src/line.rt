@@ -1,19 +1,17 @@
 //! A line of a catalog.
 
-ghost use Rattle.std.specs.Prelude.{◌≡◌, ◌^◌, ◌∷◌, [], Some, None, true, false, IfSome, IfNone, IfOk, IfErr, option_to_list, option_copied};
-ghost use Rattle.std.specs.List.{list_any, list_all, AllByRecursion};
+ghost use Rattle.std.specs.Prelude.{◌≡◌, ◌^◌, ◌∷◌, [], Some, None, IfSome, IfNone, IfOk, IfErr, option_to_list, option_copied};
+ghost use Rattle.std.specs.List.{list_any, AllByRecursion};
 ghost use Rattle.std.specs.Option.{ForSome};
 ghost use Rattle.std.specs.Str as strs;
-ghost use Rattle.std.specs.Char.{is_ascii_digit};
-ghost use Rattle.meta_text.specs.Text.{is_value_byte};
-ghost use Rattle.meta_text.specs.Text as texts;
 ghost use Rattle.carousel_cid.specs.Number.{number_below};
 ghost use Rattle.sender_plan.specs.CatalogLine as specs;
 ghost use Rattle.wire_bytes.specs.FirstFault.{first_fault};
 ghost use Rattle.sender_plan.specs.CatalogLine.{fields_of, causes_of, cause_of, entry_in};
 ghost use Rattle.sender_plan.specs.Inner.Lines.{texts_of, HasForm, IsField, entry_of, Follows};
 
-use std::str;
+use carousel_cid::number_below;
+use meta_text::clean_text;
 
 /// How many instances a catalog may have.
 const MOST_INSTANCES: usize = 256;
@@ -59,25 +57,6 @@ pub(crate) fn read_line(line: &[u8], before: usize) -> Result<Said<'_>, u8>
         Some(Form::File(file)) => read_file(file, before),
         None => Err(2),
     }
-}
-
-/// A line as text, where it is UTF-8 without control characters other than the tab.
-fn clean_text(line: &[u8]) -> Option<&str>
-    ensures text { IfSome result (λ text. text.now ≡ line.now) }
-    ensures clean { IfSome result (λ text. texts.is_clean line.now ≡ true) }
-    ensures none { IfNone result (texts.is_clean line.now ≡ false) }
-{
-    match str::from_utf8(line) {
-        Ok(text) if has_value_bytes(line) => Some(text),
-        _ => None,
-    }
-}
-
-fn has_value_bytes(line: &[u8]) -> bool
-    ensures { result ≡ list_all is_value_byte line.now }
-{
-    line.iter()
-        .all(|b| (*b == b'\t' || *b >= 0x20) && *b != 0x7F)
 }
 
 /// The form of a line.
@@ -188,14 +167,6 @@ fn is_bad_text(text: &str) -> bool
 fn number_in(text: &str) -> Option<u32>
     ensures { result ≡ number_below (2 ^ 32) text.now }
 {
-    if !are_digits(text.as_bytes()) {
-        return None;
-    }
-    text.parse().ok()
-}
-
-fn are_digits(bytes: &[u8]) -> bool
-    ensures { result ≡ list_all is_ascii_digit bytes.now }
-{
-    bytes.iter().all(|b| b.is_ascii_digit())
+    let number = number_below(1 << 32, text.as_bytes())?;
+    Some(number as u32)
 }

@@ -12,23 +12,23 @@ pub returns-in_default-name_from-clause-fault : goal.returns-in_default-name_fro
 returns-in_default-name_from-clause-fault c =
     fault_bad_name c.args.number c.args.line.now c.in-Some.colon (sym c.in-Some.ensures) c.in_default-name_from.ensures.none
 
-pub returns-in_default-value_from-clause-fault : goal.returns-in_default-value_from-clause-fault
-returns-in_default-value_from-clause-fault c =
+pub returns-in_default-clean_text-clause-fault : goal.returns-in_default-clean_text-clause-fault
+returns-in_default-clean_text-clause-fault c =
     let line = c.args.line.now in
     let at = c.in-Some.colon in
     let value : c.trimmed.result.now ≡ trimmed (drop (at + 1) line) = c.trimmed.ensures ∙ ap trimmed (take_rest line (at + 1)) in
-    fault_bad_value c.args.number line at (sym c.in-Some.ensures) c.in-Some-name_from.ensures.name (ap is_clean (sym value) ∙ c.in_default-value_from.ensures.none)
+    fault_bad_value c.args.number line at (sym c.in-Some.ensures) c.in-Some-name_from.ensures.name (ap is_clean (sym value) ∙ c.in_default-clean_text.ensures.none)
 
 pub returns-clause-sound : goal.returns-clause-sound
 returns-clause-sound c =
     let line = c.args.line.now in
     let at = c.in-Some.colon in
     let value : c.trimmed.result.now ≡ trimmed (drop (at + 1) line) = c.trimmed.ensures ∙ ap trimmed (take_rest line (at + 1)) in
-    fault_none c.args.number line at (sym c.in-Some.ensures) c.in-Some-name_from.ensures.name (ap is_clean (sym value) ∙ c.in-Some-value_from.ensures.clean)
+    fault_none c.args.number line at (sym c.in-Some.ensures) c.in-Some-name_from.ensures.name (ap is_clean (sym value) ∙ c.in-Some-clean_text.ensures.clean)
 
 pub returns-clause-is_value : goal.returns-clause-is_value
 returns-clause-is_value c =
     let line = c.args.line.now in
     let at = c.in-Some.colon in
     let value : c.trimmed.result.now ≡ trimmed (drop (at + 1) line) = c.trimmed.ensures ∙ ap trimmed (take_rest line (at + 1)) in
-    IsValue-trimmed c.in-Some-value_from.value.now c.trimmed.result.now (drop (at + 1) line) c.in-Some-value_from.ensures.text value c.in-Some-value_from.ensures.clean
+    IsValue-trimmed c.in-Some-clean_text.value.now c.trimmed.result.now (drop (at + 1) line) c.in-Some-clean_text.ensures.text value c.in-Some-clean_text.ensures.clean

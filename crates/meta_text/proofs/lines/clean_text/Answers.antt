@@ -1,8 +1,8 @@
 use Rattle.std.proofs.Common.{sym, ap, ◌∙◌}
 use Rattle.meta_text.specs.Text.{is_clean}
 use Rattle.meta_text.proofs.Clean.{not_clean}
-use Rattle.meta_text.proofs.lines.value_from.Goals as goal
-use Rattle.meta_text.proofs.lines.value_from.Goals.{in_default-via-in-Ok+else-is_clean, in_default-via-in_default}
+use Rattle.meta_text.proofs.lines.clean_text.Goals as goal
+use Rattle.meta_text.proofs.lines.clean_text.Goals.{in_default-via-in-Ok+else-is_clean, in_default-via-in_default}
 
 pub returns-in_default-clause-none : goal.returns-in_default-clause-none
 returns-in_default-clause-none c =
