@@ -1,4 +1,3 @@
-mod Numbers
 mod Fields
 mod Cuts
 mod Causes
