@@ -7,9 +7,9 @@ use crate::{Event, Unheard, Watch};
 #[derive(Drop, Debug)]
 pub struct Counter {
     /// How many events it heard.
-    count: u64,
+    pub(crate) count: u64,
     /// How often it was deaf, up to the end of the type.
-    failed: u64,
+    pub(crate) failed: u64,
 }
 
 impl Counter {

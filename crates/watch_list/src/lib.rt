@@ -1,12 +1,26 @@
-//! What a run tells of each datagram, and the trait of those who listen.
+//! What a run tells of each datagram, and those who listen.
+//!
+//! A `Watch` hears each event of a run. `Counter` counts them, `Lines` writes a line for each, `Bell`
+//! writes one where an instance is installed, and `Diary` keeps them. `tell_all` lets a list of
+//! watchers hear an event, and drops those that fail.
 #![tactic(auto)]
 
+mod bell;
 mod counter;
+mod diary;
 mod event;
+mod event_line;
+mod lines;
+mod telling;
 #[cfg(test)]
 mod tests;
 mod watch;
+mod write_event;
 
+pub use bell::Bell;
 pub use counter::Counter;
+pub use diary::Diary;
 pub use event::Event;
+pub use lines::Lines;
+pub use telling::tell_all;
 pub use watch::{Unheard, Watch};

@@ -1,5 +1,9 @@
-use crate::{Counter, Event, Unheard, Watch};
-use std::test::Fail;
+mod counter;
+mod devices;
+mod diary;
+mod telling;
+
+use crate::{Event, Unheard, Watch};
 
 /// One event of each kind.
 const EVENTS: [Event; 10] = [
@@ -44,15 +48,5 @@ fn hear_all<W: Watch>(watcher: &mut W, events: &[Event]) -> Result<(), Unheard> 
     for event in events {
         watcher.hear(event)?;
     }
-    Ok(())
-}
-
-#[test]
-fn counter_counts_every_event(rt: HostRuntime) -> Result<(), Fail> {
-    let mut counter = Counter::new();
-    assert_eq!(rt; counter.tally(), 0);
-    assert!(rt; hear_all(&mut counter, &EVENTS).is_ok());
-    assert_eq!(rt; counter.tally(), 10);
-    assert!(rt; counter.heard(0).is_none());
     Ok(())
 }

@@ -1,0 +1,3 @@
+pub mod Siftings
+pub mod Hearings
+mod Steps
