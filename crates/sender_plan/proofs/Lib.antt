@@ -13,3 +13,5 @@ mod Sessions
 mod Planned
 mod Filing
 mod Apart
+pub mod Texts
+pub mod Public

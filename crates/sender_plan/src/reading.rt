@@ -1,6 +1,6 @@
 //! A catalog, read line by line.
 
-ghost use Rattle.std.specs.Prelude.{◌≡◌, ◌≤◌, ◌+◌, ◌++◌, ◌∷◌, [], ℕ, List, Some, None, false, length, IfOk, IfErr, OnOk, OnErr, option_copied};
+ghost use Rattle.std.specs.Prelude.{◌≡◌, ◌≤◌, ◌+◌, ◌++◌, ◌∷◌, [], ℕ, List, Some, None, false, length, All, IfOk, IfErr, OnOk, OnErr, unwrap_or, option_copied};
 ghost use Rattle.std.specs.List.{flat_map};
 ghost use Rattle.meta_text.specs.Lines.{lines_of};
 ghost use Rattle.sender_plan.specs.CatalogInstance.{IsItem, most_instances};
@@ -19,9 +19,11 @@ use std::alloc::{AllocError, Global};
 ///
 /// The text is cut at each LF, and one CR at a line's end is left out. Empty lines and lines that start with `#` are
 /// passed over and counted. Fields are separated by single tabs. `instance` and a number is a new instance; `file`, a
-/// name, a location and maybe a type is a file of the last instance. Memory is taken once no line is bad.
+/// name, a location and maybe a type is a file of the last instance. Memory is taken once no line is bad. A file's
+/// location and type stand in the text, and have together at most its bytes.
 pub fn read_catalog(alloc: Global, bytes: &[u8]) -> Result<Catalog, CatalogFault>
     ensures reading { Gives result (reading bytes.now) }
+    ensures short { IfOk result (λ c. All (λ i. All (λ item. length item.location + length (unwrap_or item.kind []) ≤ length bytes.now) i.items) c) }
 {
     if let Some(bad) = bad_line(bytes) {
         return Err(CatalogFault::Line {

@@ -1,0 +1,2 @@
+-- What other crates may cite of this crate's proofs.
+pub use Rattle.sender_plan.proofs.Texts.{texts_within}
