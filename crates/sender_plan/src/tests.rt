@@ -1,10 +1,20 @@
-//! Tables of catalogs, what they list and what refuses them.
+//! Tables of catalogs: what they list, what refuses them, and what is planned from them.
+
 use super::*;
 use std::alloc::Global;
 use std::test::Fail;
 
 mod catalogs;
 mod checks;
+mod plans;
+
+const PARAMS: Params = Params {
+    tsi: 1,
+    symbol: 25,
+    max_block: 2,
+    max_n: 3,
+    cycles: 1,
+};
 
 /// The first instance of a catalog, as text: its number, and for each file its name, its location and its type.
 fn shown(alloc: Global, catalog: &Catalog) -> Result<String, Fail> {

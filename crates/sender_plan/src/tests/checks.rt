@@ -1,13 +1,5 @@
 use super::*;
 
-const PARAMS: Params = Params {
-    tsi: 1,
-    symbol: 25,
-    max_block: 2,
-    max_n: 3,
-    cycles: 1,
-};
-
 /// What refuses the catalog of a text.
 fn fault(rt: &HostRuntime, text: &[u8], params: &Params) -> Result<Option<PlanFault>, Fail> {
     let catalog = read_catalog(rt.alloc(), text)?;
