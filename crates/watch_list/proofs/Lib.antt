@@ -1,3 +1,4 @@
-pub mod Siftings
+mod Siftings
 pub mod Hearings
 mod Steps
+pub mod Public
