@@ -1,5 +1,5 @@
 -- What watchers have heard: of no events, and of some events and then more.
-use Rattle.std.proofs.Common.{◌≡◌, ℕ, ◌+◌, List, [], ◌∷◌, ◌++◌, length, refl, sym, ap, ◌∙◌, arith}
+use Rattle.std.proofs.Common.{ℕ, ◌+◌, List, [], ◌∷◌, ◌++◌, length, refl, sym, ap, ◌∙◌, arith}
 use Rattle.std.proofs.lemmas.List.{append-nil, length-append, append_assoc}
 use Rattle.edge_io.specs.Faults.{Rose}
 use Rattle.watch_list.specs.Hearing.{HasHeard, HasRefused, Heard}
