@@ -1,3 +1,5 @@
+mod ranges;
+
 use super::*;
 use meta_text::Label;
 use std::alloc::{AllocError, Global};
