@@ -1,6 +1,6 @@
 //! The failures of a real device.
 
-ghost use Rattle.std.specs.Prelude.{◌≡◌, ◌≤◌, Option, OnOk, None, IsErrOf};
+ghost use Rattle.std.specs.Prelude.{◌≡◌, ◌≤◌, ◌↔◌, Option, OnOk, None, IsOk, IsErrOf};
 ghost use Rattle.edge_io.specs.Faults.{Rose, one_more};
 
 use crate::Trouble;
@@ -41,6 +41,7 @@ impl Failures {
 
     /// The answer for what a device did. A refusal of memory is none of the device's failures.
     pub fn judge(&mut self, done: io::Result<()>) -> Result<(), Trouble>
+        ensures variant { IsOk result ↔ IsOk done }
         ensures fault { IsErrOf result Trouble.Failed → self.new.count ≡ one_more self.old.count }
         ensures quiet { OnOk result (self.new.count ≡ self.old.count) }
         ensures wants { IsErrOf result Trouble.Memory → self.new.count ≡ self.old.count }

@@ -33,7 +33,17 @@ pub fn begin_folder<R: Files + AllocGlobal + Clone + Drop>(rt: &R, folder: &str)
 
 /// Writes a new file, or leaves none.
 pub fn put_file<R: Files>(rt: &R, path: &str, body: &[u8]) -> io::Result<()> {
-    let mut file = File::create_new(rt, path)?;
+    let file = File::create_new(rt, path)?;
+    fill_file(rt, path, file, body)
+}
+
+/// Writes the bytes to the new file at this path, and removes it where that fails.
+pub fn fill_file<R: Files, W: Write + Drop>(
+    rt: &R,
+    path: &str,
+    mut file: W,
+    body: &[u8],
+) -> io::Result<()> {
     match file.write_all(body) {
         Ok(()) => Ok(()),
         Err(error) => {

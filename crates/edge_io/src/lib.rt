@@ -4,7 +4,8 @@
 //! (`told`), and count its faults. Beside the traits stand forms in memory that fail at stated
 //! calls (`Mem..`), forms that never fail (`Sure..`), forms over real devices, which tell
 //! nothing, `LogReader`, which reads the datagrams of a packet log, and `LogWriter`, which writes
-//! them.
+//! them. `UdpDatagrams` and `UdpEmit` are datagrams over UDP, and the `Placed..` forms choose
+//! between both by the place of `connect`.
 #![tactic(auto)]
 
 mod bytes;
@@ -30,7 +31,10 @@ mod mem_files;
 mod mem_shelf;
 mod mem_text;
 mod next;
+mod pace;
 mod place;
+mod placed_datagrams;
+mod placed_emit;
 mod reader_bytes;
 mod shelf;
 mod shelved_file;
@@ -41,7 +45,10 @@ mod sure_files;
 mod sure_shelf;
 mod sure_text;
 mod text;
+mod tries;
 mod trouble;
+mod udp_datagrams;
+mod udp_emit;
 mod writer_text;
 
 pub use bytes::Bytes;
@@ -64,7 +71,10 @@ pub use mem_files::MemFiles;
 pub use mem_shelf::MemShelf;
 pub use mem_text::MemText;
 pub use next::Next;
+pub use pace::Pace;
 pub use place::Place;
+pub use placed_datagrams::PlacedDatagrams;
+pub use placed_emit::PlacedEmit;
 pub use reader_bytes::ReaderBytes;
 pub use shelf::Shelf;
 pub use shelved_file::ShelvedFile;
@@ -76,6 +86,8 @@ pub use sure_shelf::SureShelf;
 pub use sure_text::SureText;
 pub use text::Text;
 pub use trouble::Trouble;
+pub use udp_datagrams::UdpDatagrams;
+pub use udp_emit::{DEFAULT_RATE, UdpEmit};
 pub use writer_text::WriterText;
 
 #[cfg(test)]

@@ -53,6 +53,7 @@ pub struct LogReader<B: Bytes> {
 impl<B: Bytes> LogReader<B> {
     /// The datagrams of the log that these bytes are. Takes no memory.
     pub fn new(source: B) -> LogReader<B>
+        ensures source { result.source ≡ source }
         ensures told { B.told source → ⟦<LogReader<B> as Datagrams>⟧.told result }
         ensures left { ⟦<LogReader<B> as Datagrams>⟧.left result ≡ datagrams_of (B.left source) }
         ensures torn { ⟦<LogReader<B> as Datagrams>⟧.torn result ≡ torn_at (B.left source) }

@@ -3,12 +3,10 @@
 ghost use Rattle.std.specs.Prelude.{◌≡◌, ◌≤◌, [], length, IfOk, OnOk, IsErr};
 ghost use Rattle.edge_io.specs.Faults.{Rose, one_more};
 
+use crate::tries::TRIES;
 use crate::{Bytes, Failed, Failures};
 use std::io;
 use std::io::{ErrorKind, Read};
-
-/// How often a read that a signal interrupts is tried.
-const TRIES: u32 = 1_000;
 
 /// The bytes of a real reader, as standard input. Nothing is told of them.
 ///

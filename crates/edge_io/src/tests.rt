@@ -5,7 +5,10 @@ mod folder;
 mod folder_files;
 mod log_writer;
 mod mem_forms;
+mod pace;
+mod placed;
 mod real_forms;
+mod udp;
 
 use super::*;
 use std::alloc::{AllocError, Global};

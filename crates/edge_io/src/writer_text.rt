@@ -3,12 +3,10 @@
 ghost use Rattle.std.specs.Prelude.{◌≡◌, ◌≤◌, [], OnOk, IsErrOf};
 ghost use Rattle.edge_io.specs.Faults.{Rose, one_more};
 
+use crate::tries::TRIES;
 use crate::{Failures, Text, Trouble};
 use std::io;
 use std::io::{ErrorKind, Write};
-
-/// How often a flush that a signal interrupts is tried.
-const TRIES: u32 = 1_000;
 
 /// The text of a real writer, as standard output. Nothing is told of it.
 ///

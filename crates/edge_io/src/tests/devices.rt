@@ -1,6 +1,7 @@
 //! A reader and a writer that are cut short and fail at stated calls.
 
 use crate::{Bytes, SureBytes};
+use std::alloc::{AllocError, Global};
 use std::io;
 use std::io::{ErrorKind, Read, Write};
 
@@ -70,5 +71,42 @@ impl Write for FaultyWriter {
         }
         self.flushes = self.flushes.saturating_add(1);
         Ok(())
+    }
+}
+
+/// No call fails.
+pub const NONE: Fault = Fault {
+    first: 0,
+    last: 0,
+    kind: ErrorKind::Other,
+};
+
+/// The call of this number fails in this way.
+pub fn at(call: u32, kind: ErrorKind) -> Fault {
+    Fault {
+        first: call,
+        last: call,
+        kind,
+    }
+}
+
+/// A reader of these bytes, one a call.
+pub fn reader(alloc: Global, bytes: &[u8], fault: Fault) -> Result<FaultyReader, AllocError> {
+    Ok(FaultyReader {
+        source: SureBytes::new(Vec::from_slice(alloc, bytes)?),
+        size: 1,
+        fault,
+        call: 0,
+    })
+}
+
+/// A writer that takes so many bytes a call.
+pub fn writer(alloc: Global, size: usize, fault: Fault) -> FaultyWriter {
+    FaultyWriter {
+        bytes: Vec::new(alloc),
+        size,
+        fault,
+        call: 0,
+        flushes: 0,
     }
 }

@@ -1,5 +1,7 @@
 //! The folder as a shelf, over folders of the tests' own beside where they run.
 
+use super::devices::{at, writer};
+use crate::folder::fill_file;
 use crate::{Failures, FolderShelf, Shelf, Trouble};
 use std::alloc::Global;
 use std::io::ErrorKind;
@@ -171,6 +173,20 @@ fn put_writes_through_no_link_and_over_no_file(rt: HostRuntime) -> Result<(), Fa
     );
     fs::remove_dir_all(&rt, "shelf_put")?;
     fs::remove_file(&rt, outside)?;
+    Ok(())
+}
+
+/// Where a write of a file fails half way, what was written of it is removed.
+#[test]
+fn failed_write_leaves_no_file(rt: HostRuntime) -> Result<(), Fail> {
+    for call in 1..4 {
+        fs::write(&rt, "shelf_half", "")?;
+        let device = writer(rt.alloc(), 1, at(call, ErrorKind::StorageFull));
+        let done = fill_file(&rt, "shelf_half", device, b"abc");
+        let kind = done.err().map(|error| error.kind());
+        assert_eq!(rt; kind, Some(ErrorKind::StorageFull), "write {call}");
+        assert!(rt; !fs::exists(&rt, "shelf_half")?, "write {call}");
+    }
     Ok(())
 }
 

@@ -2,7 +2,7 @@
 
 ghost use Rattle.std.specs.Prelude.{◌≤◌, length};
 
-use super::devices::{Fault, FaultyReader, FaultyWriter};
+use super::devices::{Fault, NONE, at, reader, writer};
 use crate::{
     Bytes, Datagrams, Emit, Failed, LogReader, LogWriter, Next, Place, ReaderBytes, SureBytes,
     Text, Trouble, WriterText,
@@ -11,43 +11,6 @@ use std::alloc::{AllocError, Global};
 use std::io::{BufReader, BufWriter, ErrorKind};
 use std::process::Abort;
 use std::test::Fail;
-
-/// No call fails.
-const NONE: Fault = Fault {
-    first: 0,
-    last: 0,
-    kind: ErrorKind::Other,
-};
-
-/// The call of this number fails in this way.
-fn at(call: u32, kind: ErrorKind) -> Fault {
-    Fault {
-        first: call,
-        last: call,
-        kind,
-    }
-}
-
-/// A reader of these bytes, one a call.
-fn reader(alloc: Global, bytes: &[u8], fault: Fault) -> Result<FaultyReader, AllocError> {
-    Ok(FaultyReader {
-        source: SureBytes::new(Vec::from_slice(alloc, bytes)?),
-        size: 1,
-        fault,
-        call: 0,
-    })
-}
-
-/// A writer that takes so many bytes a call.
-fn writer(alloc: Global, size: usize, fault: Fault) -> FaultyWriter {
-    FaultyWriter {
-        bytes: Vec::new(alloc),
-        size,
-        fault,
-        call: 0,
-        flushes: 0,
-    }
-}
 
 /// A failed read is no end: the bytes behind it are read afterwards.
 #[test]
