@@ -2,7 +2,7 @@
 
 ghost use Rattle.std.specs.Prelude.{◌≡◌, IfOk, vec_len};
 
-use super::{DATAGRAM, drained, zeros};
+use super::{datagram, drained, zeros};
 use crate::{Emit, LogReader, LogWriter, MemText, Next, Place, SureBytes, Trouble};
 use std::alloc::{AllocError, Global};
 use std::process::Abort;
@@ -108,7 +108,7 @@ fn send_both(
 ) -> Result<(), AllocError> {
     let long = long_datagram(alloc)?;
     assert_eq!(rt; log.connect(&Place::Log), Ok(()));
-    assert_eq!(rt; log.send(&DATAGRAM), Ok(()));
+    assert_eq!(rt; log.send(datagram(alloc)?.as_slice()), Ok(()));
     assert_eq!(rt; log.send(long.as_slice()), Ok(()));
     Ok(())
 }
@@ -134,7 +134,7 @@ fn written_log_is_read_back(rt: HostRuntime) -> Result<(), Fail> {
     let (datagrams, last) = drained(alloc, &mut reader, &mut buffer)?;
     assert_eq!(rt; last, Next::End);
     assert_eq!(rt; datagrams.len(), 2);
-    assert_eq!(rt; datagrams[0].as_slice(), DATAGRAM.as_slice());
+    assert_eq!(rt; datagrams[0].as_slice(), datagram(alloc)?.as_slice());
     assert_eq!(rt; datagrams[1].as_slice(), long_datagram(alloc)?.as_slice());
     Ok(())
 }

@@ -71,9 +71,15 @@ fn file(alloc: Global, name: &str, bytes: Vec<u8>) -> Result<(String, Vec<u8>), 
     Ok((String::from_str(alloc, name)?, bytes))
 }
 
+/// The file `a` with the bytes `hi`, of which the read of this number fails.
+fn small_file(alloc: Global, call: u32) -> Result<MemFiles, AllocError> {
+    let small = file(alloc, "a", Vec::from_slice(alloc, b"hi")?)?;
+    Ok(MemFiles::new(vec![in alloc; small]?, vec![in alloc; call]?))
+}
+
 /// The files `a` with the bytes `hi`, `most` with as many bytes as a file may have, and `more`
-/// with one more, of which the read of this number fails.
-fn files(alloc: Global, call: u32) -> Result<MemFiles, AllocError> {
+/// with one more.
+fn files(alloc: Global) -> Result<MemFiles, AllocError> {
     let small = file(alloc, "a", Vec::from_slice(alloc, b"hi")?)?;
     let most = file(alloc, "most", zeros(alloc, 16_777_216)?)?;
     let more = file(alloc, "more", zeros(alloc, 16_777_217)?)?;
@@ -81,7 +87,7 @@ fn files(alloc: Global, call: u32) -> Result<MemFiles, AllocError> {
     held.push(small)?;
     held.push(most)?;
     held.push(more)?;
-    Ok(MemFiles::new(held, vec![in alloc; call]?))
+    Ok(MemFiles::new(held, Vec::new(alloc)))
 }
 
 /// Compares the size of the file of this name, or why it isn't read, and the misses so far.
@@ -100,7 +106,7 @@ fn compare_read(
 #[test]
 fn files_in_memory_are_read_by_name(rt: HostRuntime) -> Result<(), Fail> {
     let alloc = rt.alloc();
-    let mut files = files(alloc, 0)?;
+    let mut files = files(alloc)?;
     compare_read(&rt, &mut files, "a", Ok(2), 0);
     compare_read(&rt, &mut files, "b", Err(FileFault::Absent), 1);
     compare_read(&rt, &mut files, "most", Ok(16_777_216), 1);
@@ -117,7 +123,7 @@ fn files_in_memory_are_read_by_name(rt: HostRuntime) -> Result<(), Fail> {
 fn files_in_memory_fail_at_each_stated_call(rt: HostRuntime) -> Result<(), Fail> {
     let alloc = rt.alloc();
     for call in 1..4 {
-        let mut files = files(alloc, call)?;
+        let mut files = small_file(alloc, call)?;
         for number in 1..4 {
             let wanted = if number == call {
                 Err(FileFault::Failed)

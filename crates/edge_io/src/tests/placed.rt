@@ -1,13 +1,37 @@
 //! The forms that choose between a packet log and a UDP address.
 
+ghost use Rattle.std.specs.Prelude.{◌≤◌, length};
+
 use super::udp::{listen, local, receive, send};
 use super::zeros;
 use crate::{
-    Datagrams, Emit, Failed, MemText, Next, Place, PlacedDatagrams, PlacedEmit, SureBytes, Trouble,
-    UdpDatagrams, UdpEmit,
+    Bytes, Datagrams, Emit, Failed, MemText, Next, Place, PlacedDatagrams, PlacedEmit, SureBytes,
+    Trouble, UdpDatagrams, UdpEmit,
 };
+use std::alloc::{AllocError, Global};
+use std::net::Net;
 use std::process::Abort;
 use std::test::Fail;
+use std::time::Clock;
+
+/// Listens at a port that the system chooses, and reads a datagram that is sent there.
+fn pass_datagram<B: Bytes, N: Net + Clock + Drop>(
+    rt: &impl Abort,
+    alloc: Global,
+    source: &mut PlacedDatagrams<B, N>,
+    net: N,
+    buffer: &mut [u8],
+) -> Result<(), AllocError>
+    requires { 65535 ≤ length buffer.old }
+{
+    assert_eq!(rt; source.connect(&local(0)), Ok(()));
+    let mut sink = UdpEmit::new(net, 0);
+    let port = source.udp.port().unwrap_or(0);
+    assert_eq!(rt; sink.connect(&local(port)), Ok(()));
+    assert_eq!(rt; send(alloc, &mut sink, 7)?, Ok(()));
+    receive(rt, source, buffer, 7);
+    Ok(())
+}
 
 /// The log goes on where a socket was read in between.
 #[test]
@@ -18,18 +42,10 @@ fn source_is_chosen_by_place(rt: HostRuntime) -> Result<(), Fail> {
     let mut source = PlacedDatagrams::new(SureBytes::new(log), rt);
     assert_eq!(rt; source.connect(&Place::Log), Ok(()));
     assert_eq!(rt; source.next(&mut buffer), Next::Got(2));
-
-    assert_eq!(rt; source.connect(&local(0)), Ok(()));
-    let mut sink = UdpEmit::new(rt, 0);
-    let port = source.udp.port().unwrap_or(0);
-    assert_eq!(rt; sink.connect(&local(port)), Ok(()));
-    assert_eq!(rt; send(alloc, &mut sink, 7)?, Ok(()));
-    receive(&rt, &mut source, &mut buffer, 7);
-
+    pass_datagram(&rt, alloc, &mut source, rt, &mut buffer)?;
     assert_eq!(rt; source.connect(&Place::Log), Ok(()));
     assert_eq!(rt; source.udp.port(), None);
     assert_eq!(rt; source.next(&mut buffer), Next::Got(60));
-    assert_eq!(rt; source.next(&mut buffer), Next::End);
     assert_eq!(rt; source.failures, 0);
     Ok(())
 }
@@ -52,7 +68,7 @@ fn failed_connect_keeps_the_source(rt: HostRuntime) -> Result<(), Fail> {
 }
 
 /// Compares what was written of a log, and how many calls failed.
-fn compare<N: std::net::Net + std::time::Clock + Drop>(
+fn compare<N: Net + Clock + Drop>(
     rt: &impl Abort,
     sink: &PlacedEmit<MemText, N>,
     written: &[u8],
