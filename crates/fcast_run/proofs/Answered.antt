@@ -8,7 +8,7 @@ use Rattle.fcast_run.specs.declared.settings.Settings.{Settings}
 use Rattle.fcast_run.specs.declared.fault.Fault.{Fault}
 use Rattle.fcast_run.specs.declared.task.Task.{Task}
 use Rattle.fcast_run.specs.declared.task.Task.TheVariants as tasks
-use Rattle.fcast_run.specs.Commands.{replay_in, dump_in, replay_of, dump_of}
+use Rattle.fcast_run.specs.Commands.{receiving_in, dump_in, receiving_of, dump_of}
 use Rattle.fcast_run.specs.declared.fault.Fault.TheVariants.{Datagrams, Text, Shelf, Memory}
 use Rattle.fcast_run.specs.Endings.{is_base, is_apart, is_at_end, IsDone, WritesPart}
 use Rattle.fcast_run.specs.Inner.Answers.{status_of, status_of_answer, Blames, LeavesText, LeavesShelf}
@@ -18,10 +18,10 @@ use Rattle.fcast_run.proofs.Installing.{part_all}
 pub for_value : {A : Type 0} (P : A → Type 0) (o : Option A) (a : A) → Some a ≡ o → P a → (c : A) → o ≡ Some c → P c
 for_value P o a is holds c words = subst P (let e : Some a ≡ Some c = is ∙ words in let h : a ≡ c = cc in h) holds
 
--- the words are the replay or the dump that was read of them
-pub replay_is : (read : Option Task) (task : Task) (settings : Settings) (words : List (List ℕ)) → read ≡ Some task → task ≡ tasks.Replay settings
-    → option_and_then replay_in read ≡ replay_of words → Some settings ≡ replay_of words
-replay_is read task settings words some is of = sym (ap (option_and_then replay_in) (some ∙ ap Some is)) ∙ of
+-- the words are the receiving or the dump that was read of them
+pub receiving_is : (read : Option Task) (task : Task) (settings : Settings) (words : List (List ℕ)) → read ≡ Some task → task ≡ tasks.Receive settings
+    → option_and_then receiving_in read ≡ receiving_of words → Some settings ≡ receiving_of words
+receiving_is read task settings words some is of = sym (ap (option_and_then receiving_in) (some ∙ ap Some is)) ∙ of
 
 pub dump_is : (read : Option Task) (task : Task) (most : ℕ) (words : List (List ℕ)) → read ≡ Some task → task ≡ tasks.Dump most
     → option_and_then dump_in read ≡ dump_of words → Some most ≡ dump_of words

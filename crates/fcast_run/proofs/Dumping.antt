@@ -1,8 +1,9 @@
 -- The lines of a dump, one after another, and the part of them that is written where it stops.
-use Rattle.std.proofs.Common.{◌≡◌, ℕ, ◌+◌, ◌≤◌, List, [], ◌∷◌, ◌++◌, ◌∙◌, refl, sym, ap, arith, length, take, drop, append_assoc}
+use Rattle.std.proofs.Common.{◌≡◌, ℕ, ◌+◌, ◌≤◌, List, [], ◌∷◌, ◌++◌, ◌∙◌, sym, ap, arith, length, take, drop, append_assoc}
 use Rattle.std.specs.Prelude.{Option, Result, Ok, Err, IfOk, OnOk, OnErr}
 use Rattle.std.proofs.lemmas.List.{append-nil, take-append-drop, take-take, length-take-le}
 use Rattle.std.proofs.Math.Seq.{take-append_seam}
+use Rattle.fcast_run.specs.declared.bound.Bound.TheVariants.{Most}
 use Rattle.fcast_run.specs.declared.ending.Ending.{Ending}
 use Rattle.fcast_run.specs.declared.fault.Fault.{Fault}
 use Rattle.fcast_run.specs.Dump.{dump_line, dump_lines, dump_status, dumped}
@@ -59,22 +60,22 @@ part_of_front front rest old new part =
 -- ---- how a dump ends, from how its lines end
 
 pub ended : (most : ℕ) (left left' : List (List ℕ)) (torn torn' : Option ℕ) (ending : Ending) → left' ≡ left → torn' ≡ torn
-    → ending ≡ ending_of most left' torn' → ending ≡ ending_of most left torn
-ended most left left' torn torn' ending same same_torn is = is ∙ ap (λ l. ending_of most l torn') same ∙ ap (ending_of most left) same_torn
+    → ending ≡ ending_of (Most most) left' torn' → ending ≡ ending_of (Most most) left torn
+ended most left left' torn torn' ending same same_torn is = is ∙ ap (λ l. ending_of (Most most) l torn') same ∙ ap (ending_of (Most most) left) same_torn
 
-pub status_is : (most : ℕ) (left : List (List ℕ)) (torn : Option ℕ) (ending : Ending) (r : Result ℕ Fault) → ending ≡ ending_of most left torn
+pub status_is : (most : ℕ) (left : List (List ℕ)) (torn : Option ℕ) (ending : Ending) (r : Result ℕ Fault) → ending ≡ ending_of (Most most) left torn
     → IfOk r (λ s. s ≡ dump_status ending) → IfOk r (λ s. s ≡ (dumped most left torn).status)
 unfolding dumped
 status_is most left torn ending (Ok s) is status = status ∙ ap dump_status is
 status_is most left torn ending (Err f) is status = tt
 
 pub text_is : (r : Result ℕ Fault) (most : ℕ) (left : List (List ℕ)) (torn : Option ℕ) (ending : Ending) (told : Type 0) (old mid new : List ℕ)
-    → told → ending ≡ ending_of most left torn → mid ≡ old ++ dump_lines 0 (take most left)
+    → told → ending ≡ ending_of (Most most) left torn → mid ≡ old ++ dump_lines 0 (take most left)
     → OnOk r (told → new ≡ mid ++ ending_line ending) → OnOk r (new ≡ old ++ (dumped most left torn).text)
 unfolding dumped
 text_is (Ok s) most left torn ending told old mid new is_told is lines line =
-    line is_told ∙ ap (λ e. mid ++ ending_line e) is ∙ ap (λ t. t ++ ending_line (ending_of most left torn)) lines
-    ∙ append_assoc old (dump_lines 0 (take most left)) (ending_line (ending_of most left torn))
+    line is_told ∙ ap (λ e. mid ++ ending_line e) is ∙ ap (λ t. t ++ ending_line (ending_of (Most most) left torn)) lines
+    ∙ append_assoc old (dump_lines 0 (take most left)) (ending_line (ending_of (Most most) left torn))
 text_is (Err f) most left torn ending told old mid new is_told is lines line = tt
 
 -- the lines alone, or a part of them
@@ -83,12 +84,12 @@ pub lines_are_part : (r : Result ℕ Fault) (most : ℕ) (left : List (List ℕ)
 unfolding dumped
 lines_are_part (Ok s) most left torn told old mid new is_told lines same = tt
 lines_are_part (Err f) most left torn told old mid new is_told lines same =
-    front_written (dump_lines 0 (take most left)) (ending_line (ending_of most left torn)) old new (same is_told ∙ lines)
+    front_written (dump_lines 0 (take most left)) (ending_line (ending_of (Most most) left torn)) old new (same is_told ∙ lines)
 
 pub part_is_part : (most : ℕ) (left : List (List ℕ)) (torn : Option ℕ) (old new : List ℕ)
     → WritesPart (dump_lines 0 (take most left)) old new → WritesPart (dumped most left torn).text old new
 unfolding dumped
-part_is_part most left torn old new part = part_of_front (dump_lines 0 (take most left)) (ending_line (ending_of most left torn)) old new part
+part_is_part most left torn old new part = part_of_front (dump_lines 0 (take most left)) (ending_line (ending_of (Most most) left torn)) old new part
 
 -- what holds is what follows from an error
 pub on_error : {A E : Type 0} (r : Result A E) (P : Type 0) → P → OnErr r P

@@ -27,11 +27,10 @@ use Rattle.fcast_run.specs.declared.settings.Settings.{Settings}
 use Rattle.fcast_run.specs.declared.ending.Ending.{Ending}
 use Rattle.fcast_run.specs.declared.ending.Ending.TheVariants.{End, Torn, TooMany}
 use Rattle.fcast_run.specs.Texts.{manifest, best_lines, over_line}
-use Rattle.fcast_run.specs.Outcome.{Outcome, replayed, packets_taken, ending_of, base_status, installing, put_of, outcome_of}
+use Rattle.fcast_run.specs.Outcome.{Outcome, received, datagrams_taken, packets_taken, ending_of, base_status, installing, put_of, outcome_of}
 use Rattle.fcast_run.specs.Endings.{is_at_end}
 use Rattle.fcast_run.specs.Headline.{IsDatagramOf, IsInstalled, InstallsBest}
 use Rattle.fcast_run.proofs.Installing.{after-append}
-use Rattle.fcast_run.proofs.Lists.{taken_as_whole}
 use Rattle.receiver_core.proofs.Public.{best_is_best}
 
 -- ---- the packets of a session's datagrams are the session's
@@ -98,21 +97,21 @@ at_end_of_few result (inr e) = ap is_at_end e
 -- ---- the headline
 
 pub headline : (s : Session) (c : Settings) (left : List (List ℕ)) (torn : Option ℕ) (result : ℕ) (shelf shelf' : Shelved) (text text' : List ℕ)
-    → IsSession s → All (IsDatagramOf s c.tsi) left → is_at_end result ≡ true → result ≡ (replayed c left torn).status
-    → shelf' ≡ after (replayed c left torn).calls shelf → text' ≡ text ++ (replayed c left torn).report → InstallsBest s c left shelf shelf' text text'
-unfolding replayed
+    → IsSession s → All (IsDatagramOf s c.tsi) (datagrams_taken c left) → is_at_end result ≡ true → result ≡ (received c left torn).status
+    → shelf' ≡ after (received c left torn).calls shelf → text' ≡ text ++ (received c left torn).report
+    → InstallsBest s c (datagrams_taken c left) shelf shelf' text text'
+unfolding received
 headline s c left torn result shelf shelf' text text' session datagrams at_end status shelved written =
-    let ps = packets_of c.tsi left in
-    let end = ends (ending_of c.most left torn) (drops c.budget (packets_taken c left)) (installed_after c.budget (packets_taken c left)) result at_end status in
-    let packets : packets_taken c left ≡ ps = ap (packets_of c.tsi) (taken_as_whole c.most left torn end) in
-    let o : replayed c left torn ≡ outcome_of (replayed c left torn).place End (drops c.budget ps) (installed_after c.budget ps) =
-    ap (λ e. outcome_of (replayed c left torn).place e (drops c.budget (packets_taken c left)) (installed_after c.budget (packets_taken c left))) end
-    ∙ ap (λ qs. outcome_of (replayed c left torn).place End (drops c.budget qs) (installed_after c.budget qs)) packets in
+    let ps = packets_taken c left in
+    let best = installed_after c.budget ps in
+    let over = drops c.budget ps in
+    let end = ends (ending_of c.bound left torn) over best result at_end status in
+    let o : received c left torn ≡ outcome_of c.place End over best = ap (λ e. outcome_of c.place e over best) end in
     record {
-      best = installed_after c.budget ps;
-      greatest = subst (λ (objects : Objects). IsBestOf objects (installed_after c.budget ps))
-          (λ i t. whole_is_sent s c.budget ps t session (packets_are s c.tsi left datagrams) i) (best_is_best (held_after c.budget ps));
-      installed = installs (installed_after c.budget ps) shelf shelf' (shelved ∙ ap (λ (u : Outcome). after u.calls shelf) o);
+      best = best;
+      greatest = subst (λ (objects : Objects). IsBestOf objects best)
+          (λ i t. whole_is_sent s c.budget ps t session (packets_are s c.tsi (datagrams_taken c left) datagrams) i) (best_is_best (held_after c.budget ps));
+      installed = installs best shelf shelf' (shelved ∙ ap (λ (u : Outcome). after u.calls shelf) o);
       reported = written ∙ ap (λ (u : Outcome). text ++ u.report) o
-          ∙ ap (λ l. text ++ (best_lines (installed_after c.budget ps) ++ l)) (append-nil (over_line (drops c.budget ps)));
+          ∙ ap (λ l. text ++ (best_lines best ++ l)) (append-nil (over_line over));
     }

@@ -1,12 +1,14 @@
 -- A list of which a front is taken.
-use Rattle.std.proofs.Common.{◌≡◌, ℕ, zero, suc, ◌+◌, ◌≤◌, ◌<◌, Bool, true, false, List, [], ◌∷◌, ◌++◌, ◌∙◌, refl, sym, ap, arith}
+use Rattle.std.proofs.Common.{◌≡◌, ℕ, zero, suc, ◌+◌, ◌≤◌, ◌<◌, true, false, List, [], ◌∷◌, ◌++◌, ◌∙◌, refl, sym, ap, arith}
 use Rattle.std.proofs.Common.{length, take, drop, Option, length-drop, add-one}
-use Rattle.std.specs.Prelude.{nat_lt, if◌then◌else◌}
+use Rattle.std.specs.Prelude.{nat_le, nat_lt}
 use Rattle.std.proofs.lemmas.List.{take_all}
 use Rattle.std.proofs.Math.ListN.{drop_of_length-le}
 use Rattle.std.proofs.lemmas.Bool.Decides.{nat_tests}
+use Rattle.fcast_run.specs.declared.bound.Bound.{Bound}
+use Rattle.fcast_run.specs.declared.bound.Bound.TheVariants.{Most, Count}
 use Rattle.fcast_run.specs.declared.ending.Ending.TheVariants.{End, TooMany}
-use Rattle.fcast_run.specs.Outcome.{ending_of, ending_at}
+use Rattle.fcast_run.specs.Outcome.{limit, asked, ending_of, ending_at}
 
 -- of a list with this item behind its first i
 pub record HasNext {A : Type 0} (i : ℕ) (xs : List A) (x : A) (rest : List A) : Type 0 where
@@ -34,8 +36,15 @@ nothing_behind i xs e = let l = length-drop i xs in let z = ap length e in omega
 pub all_taken : {A : Type 0} (i most : ℕ) (xs : List A) → drop i xs ≡ [] → i ≤ most → take most xs ≡ take i xs
 all_taken i most xs e few = let l = nothing_behind i xs e in take_all most xs (omega (arith, l, few)) ∙ sym (take_all i xs l)
 
-pub none_left : {A : Type 0} (i most : ℕ) (xs : List A) → drop i xs ≡ [] → i ≤ most → drop (most + 1) xs ≡ []
-none_left i most xs e few = let l = nothing_behind i xs e in drop_of_length-le xs (omega (arith, l, few))
+pub none_left : {A : Type 0} (i : ℕ) (bound : Bound) (xs : List A) → drop i xs ≡ [] → i ≤ limit bound → drop (asked bound) xs ≡ []
+none_left i (Most most) xs e few = let l = nothing_behind i xs e in drop_of_length-le xs (omega (arith, l, few))
+none_left i (Count count) xs e few = let l = nothing_behind i xs e in drop_of_length-le xs (omega (arith, l, few))
+
+-- one more was asked for
+pub one_behind : {A : Type 0} (i most : ℕ) (bound : Bound) (xs : List A) (x : A) (rest : List A)
+    → bound ≡ Most most → i ≡ limit bound → drop i xs ≡ x ∷ rest → rest ≡ drop (asked bound) xs
+one_behind i most bound xs x rest is all e =
+    sym (next_of i xs x rest e).drop ∙ ap (λ n. drop (n + 1) xs) (all ∙ ap limit is) ∙ ap (λ b. drop (asked b) xs) (sym is)
 
 not_more : (n m : ℕ) → m ≤ n → nat_lt n m ≡ false
 not_more n m h = grind (arith, nat_tests)
@@ -43,18 +52,22 @@ not_more n m h = grind (arith, nat_tests)
 is_more : (n m : ℕ) → n < m → nat_lt n m ≡ true
 is_more n m h = grind (arith, nat_tests)
 
--- how the taking ends: none is left, or one more
-pub ends_at : (i most : ℕ) (left : List (List ℕ)) (torn : Option ℕ) → drop i left ≡ [] → i ≤ most → ending_of most left torn ≡ ending_at torn
-ends_at i most left torn e few = let l = nothing_behind i left e in rw (not_more most (length left) (omega (arith, l, few))) refl
+as_many : (n m : ℕ) → n ≤ m → nat_le n m ≡ true
+as_many n m h = grind (arith, nat_tests)
 
-pub ends_over : (most : ℕ) (left : List (List ℕ)) (torn : Option ℕ) → most + 1 ≤ length left → ending_of most left torn ≡ TooMany
+not_as_many : (n m : ℕ) → m < n → nat_le n m ≡ false
+not_as_many n m h = grind (arith, nat_tests)
+
+-- how the taking ends: none is left of those that may be taken, one more came, or the last that is counted
+pub ends_at : (i : ℕ) (bound : Bound) (left : List (List ℕ)) (torn : Option ℕ) → drop i left ≡ [] → i < limit bound → ending_of bound left torn ≡ ending_at torn
+ends_at i (Most most) left torn e few = let l = nothing_behind i left e in rw (not_more most (length left) (omega (arith, l, few))) refl
+ends_at i (Count count) left torn e few = let l = nothing_behind i left e in rw (not_as_many count (length left) (omega (arith, l, few))) refl
+
+pub ends_behind : (most : ℕ) (left : List (List ℕ)) (torn : Option ℕ) → drop most left ≡ [] → ending_of (Most most) left torn ≡ ending_at torn
+ends_behind most left torn e = let l = nothing_behind most left e in rw (not_more most (length left) l) refl
+
+pub ends_over : (most : ℕ) (left : List (List ℕ)) (torn : Option ℕ) → most + 1 ≤ length left → ending_of (Most most) left torn ≡ TooMany
 ends_over most left torn more = rw (is_more most (length left) (omega (arith, more))) refl
 
--- a list that was read to its end was taken as a whole
-all_of_it : (b : Bool) (most : ℕ) (left : List (List ℕ)) (torn : Option ℕ)
-    → nat_lt most (length left) ≡ b → (if b then TooMany else ending_at torn) ≡ End → take most left ≡ left
-all_of_it true most left torn h e = cc
-all_of_it false most left torn h e = take_all most left (grind (arith, nat_tests))
-
-pub taken_as_whole : (most : ℕ) (left : List (List ℕ)) (torn : Option ℕ) → ending_of most left torn ≡ End → take most left ≡ left
-taken_as_whole most left torn e = all_of_it (nat_lt most (length left)) most left torn refl e
+pub ends_counted : (count : ℕ) (left : List (List ℕ)) (torn : Option ℕ) → count ≤ length left → ending_of (Count count) left torn ≡ End
+ends_counted count left torn enough = rw (as_many count (length left) enough) refl

@@ -1,9 +1,8 @@
 -- Which status a list comes to.
-use Rattle.std.proofs.Common.{◌≡◌, ℕ, Bool, true, false, List, [], take, Option, Some, None, refl, sym, ap, arith, ◌∙◌, inl, inr, eqb-true}
+use Rattle.std.proofs.Common.{◌≡◌, ℕ, Bool, true, false, List, [], Option, Some, None, refl, sym, ap, arith, ◌∙◌, inl, inr, eqb-true}
 use Rattle.std.specs.Prelude.{◌≢◌, ◌⊎◌, ◌==◌, if◌then◌else◌, is_some}
 use Rattle.std.proofs.lemmas.Bool.Decides.{nat_tests}
 use Rattle.carousel_cid.specs.Instances.{Shown}
-use Rattle.edge_io.specs.declared.place.Place.TheVariants.{Log}
 use Rattle.object_store.specs.KeptSet.{drops}
 use Rattle.receiver_core.specs.Receiver.{Receiver}
 use Rattle.receiver_core.specs.Best.{installed_after}
@@ -11,7 +10,7 @@ use Rattle.receiver_core.specs.Classes.{packets_of}
 use Rattle.fcast_run.specs.declared.settings.Settings.{Settings}
 use Rattle.fcast_run.specs.declared.ending.Ending.{Ending}
 use Rattle.fcast_run.specs.declared.ending.Ending.TheVariants.{End, Torn, TooMany}
-use Rattle.fcast_run.specs.Outcome.{outcome_of, base_status, calls_of, ending_of, packets_taken, replayed}
+use Rattle.fcast_run.specs.Outcome.{outcome_of, base_status, calls_of, ending_of, datagrams_taken, packets_taken, received}
 use Rattle.fcast_run.specs.Endings.{is_apart}
 use Rattle.fcast_run.specs.Inner.HasTaken.{HasTaken}
 
@@ -39,9 +38,9 @@ over_base End n best s is seven = λ zero. over_none best s (is ∙ ap (λ m. ba
 over_base (Torn at) n best s is seven = λ zero. let both = sym is ∙ seven in omega (arith, both)
 over_base TooMany n best s is seven = λ zero. let both = sym is ∙ seven in omega (arith, both)
 
-pub over_of : (c : Settings) (left : List (List ℕ)) (torn : Option ℕ) (s : ℕ) → s ≡ (replayed c left torn).status → s ≡ 7 → drops c.budget (packets_taken c left) ≢ 0
-unfolding replayed
-over_of c left torn s is seven = over_base (ending_of c.most left torn)
+pub over_of : (c : Settings) (left : List (List ℕ)) (torn : Option ℕ) (s : ℕ) → s ≡ (received c left torn).status → s ≡ 7 → drops c.budget (packets_taken c left) ≢ 0
+unfolding received
+over_of c left torn s is seven = over_base (ending_of c.bound left torn)
     (drops c.budget (packets_taken c left)) (installed_after c.budget (packets_taken c left)) s is seven
 
 -- 0 and 2 say that none was
@@ -61,21 +60,21 @@ none_base TooMany n best s is (inl e) = let both = sym is ∙ e in omega (arith,
 none_base TooMany n best s is (inr e) = let both = sym is ∙ e in omega (arith, both)
 
 pub none_over_of : (c : Settings) (left : List (List ℕ)) (torn : Option ℕ) (s : ℕ)
-    → s ≡ (replayed c left torn).status → (s ≡ 0) ⊎ (s ≡ 2) → drops c.budget (packets_taken c left) ≡ 0
-unfolding replayed
-none_over_of c left torn s is few = none_base (ending_of c.most left torn)
+    → s ≡ (received c left torn).status → (s ≡ 0) ⊎ (s ≡ 2) → drops c.budget (packets_taken c left) ≡ 0
+unfolding received
+none_over_of c left torn s is few = none_base (ending_of c.bound left torn)
     (drops c.budget (packets_taken c left)) (installed_after c.budget (packets_taken c left)) s is few
 
 -- the outcome of a receiver that has taken the list is the list's
 pub outcome_is : (c : Settings) (left : List (List ℕ)) (torn : Option ℕ) (r : Receiver) (ending : Ending) (n : ℕ) (best : Option Shown)
-    → r.tsi ≡ c.tsi → r.budget ≡ c.budget → HasTaken r (take c.most left) → ending ≡ ending_of c.most left torn
-    → n ≡ r.drops → best ≡ r.installed → outcome_of Log ending n best ≡ replayed c left torn
-unfolding replayed
+    → r.tsi ≡ c.tsi → r.budget ≡ c.budget → HasTaken r (datagrams_taken c left) → ending ≡ ending_of c.bound left torn
+    → n ≡ r.drops → best ≡ r.installed → outcome_of c.place ending n best ≡ received c left torn
+unfolding received
 outcome_is c left torn r ending n best tsi budget has end count shown =
-    let ps = packets_of c.tsi (take c.most left) in
-    let dropped : n ≡ drops c.budget ps = count ∙ (has.drops ∙ (ap (λ t. drops r.budget (packets_of t (take c.most left))) tsi ∙ ap (λ b. drops b ps) budget)) in
+    let ps = packets_of c.tsi (datagrams_taken c left) in
+    let dropped : n ≡ drops c.budget ps = count ∙ (has.drops ∙ (ap (λ t. drops r.budget (packets_of t (datagrams_taken c left))) tsi ∙ ap (λ b. drops b ps) budget)) in
     let installed : best ≡ installed_after c.budget ps = shown
-    ∙ (has.installed ∙ (ap (λ t. installed_after r.budget (packets_of t (take c.most left))) tsi ∙ ap (λ b. installed_after b ps) budget)) in
-    ap (λ e. outcome_of Log e n best) end
-    ∙ (ap (λ m. outcome_of Log (ending_of c.most left torn) m best) dropped
-    ∙ ap (outcome_of Log (ending_of c.most left torn) (drops c.budget ps)) installed)
+    ∙ (has.installed ∙ (ap (λ t. installed_after r.budget (packets_of t (datagrams_taken c left))) tsi ∙ ap (λ b. installed_after b ps) budget)) in
+    ap (λ e. outcome_of c.place e n best) end
+    ∙ (ap (λ m. outcome_of c.place (ending_of c.bound left torn) m best) dropped
+    ∙ ap (outcome_of c.place (ending_of c.bound left torn) (drops c.budget ps)) installed)

@@ -9,6 +9,7 @@ use Rattle.alc_packet.specs.Reply.{reply}
 use Rattle.alc_packet.specs.declared.datagram.Datagram.{Datagram}
 use Rattle.alc_packet.specs.declared.datagram.Datagram.TheVariants.{Symbol, Control}
 use Rattle.alc_packet.specs.declared.refusal.Refusal.{Refusal}
+use Rattle.fcast_run.specs.declared.bound.Bound.TheVariants.{Most}
 use Rattle.fcast_run.specs.declared.ending.Ending.{Ending}
 use Rattle.fcast_run.specs.declared.ending.Ending.TheVariants.{End, Torn, TooMany}
 use Rattle.fcast_run.specs.Outcome.{ending_of}
@@ -80,6 +81,6 @@ pub record Dumped : Type 0 where
 -- of at most so many of the datagrams that are left, where their log is torn there
 unfoldable pub dumped : ℕ → List (List ℕ) → Option ℕ → Dumped
 dumped most left torn = record {
-  status = dump_status (ending_of most left torn);
-  text = dump_lines 0 (take most left) ++ ending_line (ending_of most left torn);
+  status = dump_status (ending_of (Most most) left torn);
+  text = dump_lines 0 (take most left) ++ ending_line (ending_of (Most most) left torn);
 }

@@ -1,9 +1,8 @@
 -- The outcome of a list of datagrams that is taken: the status of the run, what `text` gets, the calls that the shelf
 -- gets, and the place where the datagrams come from.
-use Rattle.std.specs.Prelude.{ℕ, ◌==◌, nat_lt, if◌then◌else◌, List, [], ◌∷◌, ◌++◌, length, take, map, Option, Some, None, is_some}
+use Rattle.std.specs.Prelude.{ℕ, ◌+◌, ◌==◌, nat_le, nat_lt, if◌then◌else◌, List, [], ◌∷◌, ◌++◌, length, take, map, Option, Some, None, is_some}
 use Rattle.edge_io.specs.ShelfCalls.{Call, Begin, Put, Finish}
 use Rattle.edge_io.specs.declared.place.Place.{Place}
-use Rattle.edge_io.specs.declared.place.Place.TheVariants.{Log}
 use Rattle.alc_packet.specs.Packet.{SymbolPacket}
 use Rattle.carousel_cid.specs.Instances.{Shown}
 use Rattle.carousel_cid.specs.declared.file_of.FileOf.{FileOf}
@@ -11,6 +10,8 @@ use Rattle.object_store.specs.KeptSet.{drops}
 use Rattle.receiver_core.specs.Classes.{packets_of}
 use Rattle.receiver_core.specs.Best.{installed_after}
 use Rattle.fcast_run.specs.Texts.{manifest, best_lines, over_line, ending_line}
+use Rattle.fcast_run.specs.declared.bound.Bound.{Bound}
+use Rattle.fcast_run.specs.declared.bound.Bound.TheVariants.{Most, Count}
 use Rattle.fcast_run.specs.declared.ending.Ending.{Ending}
 use Rattle.fcast_run.specs.declared.ending.Ending.TheVariants.{End, Torn, TooMany}
 use Rattle.fcast_run.specs.declared.settings.Settings.{Settings}
@@ -57,15 +58,31 @@ abbrev pub ending_at : Option ℕ → Ending
 ending_at None = End
 ending_at (Some at) = Torn at
 
--- how the taking of at most so many of the datagrams that are left ends, where their log is torn there
-abbrev pub ending_of : ℕ → List (List ℕ) → Option ℕ → Ending
-ending_of most left torn = if nat_lt most (length left) then TooMany else ending_at torn
+-- how many datagrams are taken, where there are so many
+abbrev pub limit : Bound → ℕ
+limit (Most most) = most
+limit (Count count) = count
 
--- the packets of a replay's session among the datagrams that it takes
+-- how many are asked for: behind the most that are taken one more
+abbrev pub asked : Bound → ℕ
+asked (Most most) = most + 1
+asked (Count count) = count
+
+-- How the taking of the datagrams that are left ends, where their log is torn there. One more than the most is too
+-- many; with the last that is counted the list is read to its end.
+abbrev pub ending_of : Bound → List (List ℕ) → Option ℕ → Ending
+ending_of (Most most) left torn = if nat_lt most (length left) then TooMany else ending_at torn
+ending_of (Count count) left torn = if nat_le count (length left) then End else ending_at torn
+
+-- the datagrams that are taken
+abbrev pub datagrams_taken : Settings → List (List ℕ) → List (List ℕ)
+datagrams_taken c left = take (limit c.bound) left
+
+-- the packets of the receiver's session among them
 abbrev pub packets_taken : Settings → List (List ℕ) → List SymbolPacket
-packets_taken c left = packets_of c.tsi (take c.most left)
+packets_taken c left = packets_of c.tsi (datagrams_taken c left)
 
--- of a replay of the datagrams that are left, where their log is torn there
-unfoldable pub replayed : Settings → List (List ℕ) → Option ℕ → Outcome
-replayed c left torn =
-    outcome_of Log (ending_of c.most left torn) (drops c.budget (packets_taken c left)) (installed_after c.budget (packets_taken c left))
+-- of a receiver that takes of the datagrams that are left, where their log is torn there
+unfoldable pub received : Settings → List (List ℕ) → Option ℕ → Outcome
+received c left torn =
+    outcome_of c.place (ending_of c.bound left torn) (drops c.budget (packets_taken c left)) (installed_after c.budget (packets_taken c left))

@@ -4,6 +4,7 @@ ghost use Rattle.edge_io.specs.Faults.{Rose};
 ghost use Rattle.fcast_run.specs.Dump.{dump_status, dump_line, dump_lines, dumped};
 ghost use Rattle.fcast_run.specs.Endings.{WritesPart, is_base};
 ghost use Rattle.fcast_run.specs.Outcome.{ending_of};
+ghost use Rattle.fcast_run.specs.declared.bound.Bound.TheVariants.{Most};
 ghost use Rattle.fcast_run.specs.Texts.{ending_line};
 ghost use Rattle.fcast_run.specs.Inner.Answers.{AfterTaking, Blames};
 
@@ -54,7 +55,7 @@ fn dump_all<D: Datagrams, T: Text>(
     buffer: &mut [u8],
 ) -> Result<Ending, Fault>
     requires { 65535 ≤ length buffer.old }
-    ensures ending { IfOk result (λ ending. D.told datagrams.old → ending ≡ ending_of most (D.left datagrams.old) (D.torn datagrams.old)) }
+    ensures ending { IfOk result (λ ending. D.told datagrams.old → ending ≡ ending_of (Most most) (D.left datagrams.old) (D.torn datagrams.old)) }
     ensures text { D.told datagrams.old → T.told text.old →
         OnOk result (T.written text.new ≡ T.written text.old ++ dump_lines 0 (take most (D.left datagrams.old))) }
     ensures part { D.told datagrams.old → T.told text.old →

@@ -1,6 +1,7 @@
 //! The top call: all that the program does.
 #![tactic(auto)]
 
+mod bound;
 mod command;
 mod conclude;
 mod dump;
@@ -9,7 +10,7 @@ mod edge;
 mod ending;
 mod fault;
 mod manifest;
-mod replay;
+mod receive;
 mod report;
 mod settings;
 mod shelve;

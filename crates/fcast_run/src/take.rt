@@ -1,15 +1,16 @@
 //! Taking the datagrams of a list.
 ghost use Rattle.std.specs.Prelude.{◌≡◌, ◌+◌, ◌-◌, ◌≤◌, ◌<◌, ◌^◌, ◌∷◌, ◌++◌, [], ℕ, List, IfOk, OnOk, OnErr, length, take, drop, vec_len, Some};
 ghost use Rattle.edge_io.specs.Faults.{Rose};
-ghost use Rattle.fcast_run.specs.Outcome.{ending_of};
+ghost use Rattle.fcast_run.specs.Outcome.{ending_of, limit, asked, datagrams_taken};
 ghost use Rattle.fcast_run.specs.Inner.HasTaken.{HasTaken};
 ghost use Rattle.fcast_run.specs.Inner.Answers.{Blames};
 ghost use Rattle.fcast_run.specs.Inner.Ranges.{IsInRange};
 
+use crate::bound::Bound;
 use crate::ending::Ending;
 use crate::fault::Fault;
 use crate::settings::Settings;
-use edge_io::{Datagrams, Next, Place};
+use edge_io::{Datagrams, Next};
 use receiver_core::Receiver;
 use rs_solve::Steps;
 use std::alloc::{AllocError, Global};
@@ -24,7 +25,7 @@ pub struct Gathered {
     pub ending: Ending,
 }
 
-/// Connects the datagrams to the log, and has a new receiver take them.
+/// Connects the datagrams to their place, and has a new receiver take them.
 pub fn gather<D: Datagrams>(
     alloc: Global,
     settings: &Settings,
@@ -33,47 +34,47 @@ pub fn gather<D: Datagrams>(
     requires { IsInRange settings.now }
     ensures tsi { IfOk result (λ g. g.receiver.tsi ≡ settings.now.tsi) }
     ensures budget { IfOk result (λ g. g.receiver.budget ≡ settings.now.budget) }
-    ensures taken { IfOk result (λ g. D.told datagrams.old → HasTaken g.receiver (take settings.now.most (D.left datagrams.old))) }
-    ensures ending { IfOk result (λ g. D.told datagrams.old → g.ending ≡ ending_of settings.now.most (D.left datagrams.old) (D.torn datagrams.old)) }
-    ensures left { OnOk result (D.told datagrams.old → D.left datagrams.new ≡ drop (settings.now.most + 1) (D.left datagrams.old)) }
-    ensures place { OnOk result (D.connected datagrams.new ≡ Some Place.Log) }
+    ensures taken { IfOk result (λ g. D.told datagrams.old → HasTaken g.receiver (datagrams_taken settings.now (D.left datagrams.old))) }
+    ensures ending { IfOk result (λ g. D.told datagrams.old → g.ending ≡ ending_of settings.now.bound (D.left datagrams.old) (D.torn datagrams.old)) }
+    ensures left { OnOk result (D.told datagrams.old → D.left datagrams.new ≡ drop (asked settings.now.bound) (D.left datagrams.old)) }
+    ensures place { OnOk result (D.connected datagrams.new ≡ Some settings.now.place) }
     ensures blames { Blames result (Rose (D.faults datagrams.old) (D.faults datagrams.new)) ⊥ ⊥ }
 {
     let mut buffer = zeros(alloc, BUFFER)?;
     let mut receiver = Receiver::start(alloc, settings.tsi, settings.budget)?;
-    if datagrams.connect(&Place::Log).is_err() {
+    if datagrams.connect(&settings.place).is_err() {
         return Err(Fault::Datagrams);
     }
     let ending = take_all(
         &mut receiver,
         datagrams,
-        settings.most,
+        settings.bound,
         buffer.as_mut_slice(),
     )?;
     Ok(Gathered { receiver, ending })
 }
 
-/// Has the receiver take the datagrams that are left, but no more than `most`.
+/// Has the receiver take the datagrams that are left, as far as the bound goes.
 fn take_all<D: Datagrams>(
     receiver: &mut Receiver,
     datagrams: &mut D,
-    most: u64,
+    bound: Bound,
     buffer: &mut [u8],
 ) -> Result<Ending, Fault>
     requires buffer { 65535 ≤ length buffer.old }
     requires fresh { HasTaken receiver.old [] }
-    ensures taken { OnOk result (D.told datagrams.old → HasTaken receiver.new (take most (D.left datagrams.old))) }
+    ensures taken { OnOk result (D.told datagrams.old → HasTaken receiver.new (take (limit bound) (D.left datagrams.old))) }
     ensures tsi { receiver.new.tsi ≡ receiver.old.tsi }
     ensures budget { receiver.new.budget ≡ receiver.old.budget }
-    ensures ending { IfOk result (λ ending. D.told datagrams.old → ending ≡ ending_of most (D.left datagrams.old) (D.torn datagrams.old)) }
-    ensures left { OnOk result (D.told datagrams.old → D.left datagrams.new ≡ drop (most + 1) (D.left datagrams.old)) }
+    ensures ending { IfOk result (λ ending. D.told datagrams.old → ending ≡ ending_of bound (D.left datagrams.old) (D.torn datagrams.old)) }
+    ensures left { OnOk result (D.told datagrams.old → D.left datagrams.new ≡ drop (asked bound) (D.left datagrams.old)) }
     ensures place { D.connected datagrams.new ≡ D.connected datagrams.old }
     ensures blames { Blames result (Rose (D.faults datagrams.old) (D.faults datagrams.new)) ⊥ ⊥ }
     ensures grows { D.faults datagrams.old ≤ D.faults datagrams.new }
 {
     // Nobody asks how many row steps a run takes.
     let mut steps = Steps::start(());
-    for _taken in 0..most {
+    for _taken in 0..bound.limit() {
         match datagrams.next(buffer) {
             Next::Got(size) => take_one(receiver, &mut steps, &buffer[..size])?,
             Next::End => return Ok(Ending::End),
@@ -81,6 +82,9 @@ fn take_all<D: Datagrams>(
             Next::Failed => return Err(Fault::Datagrams),
         }
     }
+    let Bound::Most(_most) = bound else {
+        return Ok(Ending::End);
+    };
     match datagrams.next(buffer) {
         Next::Got(_) => Ok(Ending::TooMany),
         Next::End => Ok(Ending::End),

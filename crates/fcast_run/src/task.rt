@@ -3,8 +3,8 @@ use crate::settings::Settings;
 /// What a run is to do.
 #[derive(Clone, Copy, PartialEq, Eq, Debug)]
 pub enum Task {
-    /// Receive a session from a packet log.
-    Replay(Settings),
+    /// Receive a session, from a packet log or over UDP.
+    Receive(Settings),
     /// Print the datagrams of a log, but no more than so many.
     Dump(u64),
 }

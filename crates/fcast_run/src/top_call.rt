@@ -4,9 +4,9 @@ ghost use Rattle.edge_io.specs.Faults.{Rose};
 ghost use Rattle.edge_io.specs.ShelfCalls.{after};
 ghost use Rattle.object_store.specs.Session.{Session, IsSession};
 ghost use Rattle.object_store.specs.KeptSet.{drops};
-ghost use Rattle.fcast_run.specs.Commands.{is_command, replay_of, dump_of};
+ghost use Rattle.fcast_run.specs.Commands.{is_command, receiving_of, dump_of};
 ghost use Rattle.fcast_run.specs.Texts.{usage_line};
-ghost use Rattle.fcast_run.specs.Outcome.{replayed, packets_taken};
+ghost use Rattle.fcast_run.specs.Outcome.{received, asked, datagrams_taken, packets_taken};
 ghost use Rattle.fcast_run.specs.Dump.{dumped};
 ghost use Rattle.fcast_run.specs.Endings.{is_status, is_apart, IsDone, WritesPart, AcceptsPart, AcceptsFewer};
 ghost use Rattle.fcast_run.specs.Headline.{IsDatagramOf, InstallsBest};
@@ -17,7 +17,7 @@ use crate::command::read_task;
 use crate::dump::dump;
 use crate::edge::Edge;
 use crate::fault::Fault;
-use crate::replay::replay;
+use crate::receive::receive;
 use crate::task::Task;
 use crate::tell::tell_usage;
 use edge_io::{Datagrams, Emit, Files, Place, Shelf, Text};
@@ -27,10 +27,11 @@ use watch_list::Watch;
 
 /// Does what the words say, and answers the status.
 ///
-/// So far there are two commands. `replay` takes the datagrams of the log, but no more than `--most`, keeps the packets
+/// So far there are three commands. `replay` takes the datagrams of the log, but no more than `--most`, keeps the packets
 /// of the session `--tsi` within the budget, installs the best instance on the shelf where the list was read to its
-/// end, and writes the report to `text`. `dump` writes a line for each datagram of the log, but for no more than
-/// `--most`.
+/// end, and writes the report to `text`. `recv` does the same with the datagrams that come over UDP to `--addr` and
+/// `--port`, and ends its list with the last of `--count`. `dump` writes a line for each datagram of the log, but for no
+/// more than `--most`.
 ///
 /// | status | meaning |
 /// |---|---|
@@ -49,17 +50,17 @@ pub fn run<D: Datagrams, E: Emit, F: Files, S: Shelf, T: Text>(
     watchers: &mut Vec<Box<dyn Watch>>,
 ) -> u8
     // The headline: what is installed is the best of what the packets kept make ready, as the session has it.
-    ensures headline { (c : Settings) → replay_of words.now ≡ Some c → (s : Session) → IsSession s
+    ensures headline { (c : Settings) → receiving_of words.now ≡ Some c → (s : Session) → IsSession s
         → D.told edge.old.datagrams → S.told edge.old.shelf → T.told edge.old.text
-        → All (IsDatagramOf s c.tsi) (D.left edge.old.datagrams)
+        → All (IsDatagramOf s c.tsi) (datagrams_taken c (D.left edge.old.datagrams))
         → (result ≡ 0) ⊎ (result ≡ 2) ⊎ (result ≡ 7)
-        → InstallsBest s c (D.left edge.old.datagrams) (S.holds edge.old.shelf) (S.holds edge.new.shelf) (T.written edge.old.text) (T.written edge.new.text) }
+        → InstallsBest s c (datagrams_taken c (D.left edge.old.datagrams)) (S.holds edge.old.shelf) (S.holds edge.new.shelf) (T.written edge.old.text) (T.written edge.new.text) }
     // Which status it is: the outcome's, unless a device failed or there was no memory.
-    ensures status { (c : Settings) → replay_of words.now ≡ Some c → D.told edge.old.datagrams → IsDone result
-        → result ≡ (replayed c (D.left edge.old.datagrams) (D.torn edge.old.datagrams)).status }
-    ensures over { (c : Settings) → replay_of words.now ≡ Some c → D.told edge.old.datagrams → result ≡ 7
+    ensures status { (c : Settings) → receiving_of words.now ≡ Some c → D.told edge.old.datagrams → IsDone result
+        → result ≡ (received c (D.left edge.old.datagrams) (D.torn edge.old.datagrams)).status }
+    ensures over { (c : Settings) → receiving_of words.now ≡ Some c → D.told edge.old.datagrams → result ≡ 7
         → drops c.budget (packets_taken c (D.left edge.old.datagrams)) ≢ 0 }
-    ensures none_over { (c : Settings) → replay_of words.now ≡ Some c → D.told edge.old.datagrams → (result ≡ 0) ⊎ (result ≡ 2)
+    ensures none_over { (c : Settings) → receiving_of words.now ≡ Some c → D.told edge.old.datagrams → (result ≡ 0) ⊎ (result ≡ 2)
         → drops c.budget (packets_taken c (D.left edge.old.datagrams)) ≡ 0 }
     // The causes of each status, whether anything is told or not.
     ensures table { is_status result ≡ true }
@@ -69,40 +70,40 @@ pub fn run<D: Datagrams, E: Emit, F: Files, S: Shelf, T: Text>(
     ensures text_failed { result ≡ 5 → Rose (T.faults edge.old.text) (T.faults edge.new.text) }
     ensures shelf_failed { result ≡ 6 → Rose (S.faults edge.old.shelf) (S.faults edge.new.shelf) }
     // What text gets.
-    ensures report { (c : Settings) → replay_of words.now ≡ Some c → D.told edge.old.datagrams → T.told edge.old.text → IsDone result →
-        T.written edge.new.text ≡ T.written edge.old.text ++ (replayed c (D.left edge.old.datagrams) (D.torn edge.old.datagrams)).report }
+    ensures report { (c : Settings) → receiving_of words.now ≡ Some c → D.told edge.old.datagrams → T.told edge.old.text → IsDone result →
+        T.written edge.new.text ≡ T.written edge.old.text ++ (received c (D.left edge.old.datagrams) (D.torn edge.old.datagrams)).report }
     ensures usage_text { T.told edge.old.text → result ≡ 1 → T.written edge.new.text ≡ T.written edge.old.text ++ usage_line }
-    ensures text_at_4 { (c : Settings) → replay_of words.now ≡ Some c → T.told edge.old.text → result ≡ 4 → T.written edge.new.text ≡ T.written edge.old.text }
+    ensures text_at_4 { (c : Settings) → receiving_of words.now ≡ Some c → T.told edge.old.text → result ≡ 4 → T.written edge.new.text ≡ T.written edge.old.text }
     ensures text_at_6 { T.told edge.old.text → result ≡ 6 → T.written edge.new.text ≡ T.written edge.old.text }
-    ensures text_at_5 { (c : Settings) → replay_of words.now ≡ Some c → D.told edge.old.datagrams → T.told edge.old.text → result ≡ 5 →
-        WritesPart (replayed c (D.left edge.old.datagrams) (D.torn edge.old.datagrams)).report (T.written edge.old.text) (T.written edge.new.text) }
-    ensures text_at_9 { (c : Settings) → replay_of words.now ≡ Some c → D.told edge.old.datagrams → T.told edge.old.text → result ≡ 9 →
-        WritesPart (replayed c (D.left edge.old.datagrams) (D.torn edge.old.datagrams)).report (T.written edge.old.text) (T.written edge.new.text) }
+    ensures text_at_5 { (c : Settings) → receiving_of words.now ≡ Some c → D.told edge.old.datagrams → T.told edge.old.text → result ≡ 5 →
+        WritesPart (received c (D.left edge.old.datagrams) (D.torn edge.old.datagrams)).report (T.written edge.old.text) (T.written edge.new.text) }
+    ensures text_at_9 { (c : Settings) → receiving_of words.now ≡ Some c → D.told edge.old.datagrams → T.told edge.old.text → result ≡ 9 →
+        WritesPart (received c (D.left edge.old.datagrams) (D.torn edge.old.datagrams)).report (T.written edge.old.text) (T.written edge.new.text) }
     ensures usage_part { is_command words.now ≡ false → T.told edge.old.text → (result ≡ 5) ⊎ (result ≡ 9) →
         WritesPart usage_line (T.written edge.old.text) (T.written edge.new.text) }
     // What the shelf gets.
-    ensures shelf { (c : Settings) → replay_of words.now ≡ Some c → D.told edge.old.datagrams → S.told edge.old.shelf → IsDone result ⊎ (result ≡ 5) →
-        S.holds edge.new.shelf ≡ after (replayed c (D.left edge.old.datagrams) (D.torn edge.old.datagrams)).calls (S.holds edge.old.shelf) }
+    ensures shelf { (c : Settings) → receiving_of words.now ≡ Some c → D.told edge.old.datagrams → S.told edge.old.shelf → IsDone result ⊎ (result ≡ 5) →
+        S.holds edge.new.shelf ≡ after (received c (D.left edge.old.datagrams) (D.torn edge.old.datagrams)).calls (S.holds edge.old.shelf) }
     ensures shelf_alone { is_apart result ≡ true → edge.new.shelf ≡ edge.old.shelf }
-    ensures shelf_at_6 { (c : Settings) → replay_of words.now ≡ Some c → D.told edge.old.datagrams → S.told edge.old.shelf → result ≡ 6 →
-        AcceptsFewer (replayed c (D.left edge.old.datagrams) (D.torn edge.old.datagrams)).calls (S.holds edge.old.shelf) (S.holds edge.new.shelf) }
-    ensures shelf_at_9 { (c : Settings) → replay_of words.now ≡ Some c → D.told edge.old.datagrams → S.told edge.old.shelf → result ≡ 9 →
-        AcceptsPart (replayed c (D.left edge.old.datagrams) (D.torn edge.old.datagrams)).calls (S.holds edge.old.shelf) (S.holds edge.new.shelf) }
+    ensures shelf_at_6 { (c : Settings) → receiving_of words.now ≡ Some c → D.told edge.old.datagrams → S.told edge.old.shelf → result ≡ 6 →
+        AcceptsFewer (received c (D.left edge.old.datagrams) (D.torn edge.old.datagrams)).calls (S.holds edge.old.shelf) (S.holds edge.new.shelf) }
+    ensures shelf_at_9 { (c : Settings) → receiving_of words.now ≡ Some c → D.told edge.old.datagrams → S.told edge.old.shelf → result ≡ 9 →
+        AcceptsPart (received c (D.left edge.old.datagrams) (D.torn edge.old.datagrams)).calls (S.holds edge.old.shelf) (S.holds edge.new.shelf) }
     // Where the datagrams were connected, what is left of them, and what is as it was.
-    ensures place { (c : Settings) → replay_of words.now ≡ Some c → result ≢ 4 → result ≢ 9 → D.connected edge.new.datagrams ≡ Some Place.Log }
-    ensures left { (c : Settings) → replay_of words.now ≡ Some c → D.told edge.old.datagrams → result ≢ 4 → result ≢ 9 →
-        D.left edge.new.datagrams ≡ drop (c.most + 1) (D.left edge.old.datagrams) }
+    ensures place { (c : Settings) → receiving_of words.now ≡ Some c → result ≢ 4 → result ≢ 9 → D.connected edge.new.datagrams ≡ Some c.place }
+    ensures left { (c : Settings) → receiving_of words.now ≡ Some c → D.told edge.old.datagrams → result ≢ 4 → result ≢ 9 →
+        D.left edge.new.datagrams ≡ drop (asked c.bound) (D.left edge.old.datagrams) }
     ensures datagrams_left { is_command words.now ≡ false → edge.new.datagrams ≡ edge.old.datagrams }
-    ensures shelf_left { replay_of words.now ≡ None → edge.new.shelf ≡ edge.old.shelf }
+    ensures shelf_left { receiving_of words.now ≡ None → edge.new.shelf ≡ edge.old.shelf }
     ensures emit { edge.new.emit ≡ edge.old.emit }
     ensures files { edge.new.files ≡ edge.old.files }
     ensures watchers { watchers.new.items ≡ watchers.old.items }
     // Where no device failed in this call, the status is the outcome's, or 9.
-    ensures complete { (c : Settings) → replay_of words.now ≡ Some c → D.told edge.old.datagrams
+    ensures complete { (c : Settings) → receiving_of words.now ≡ Some c → D.told edge.old.datagrams
         → (Rose (D.faults edge.old.datagrams) (D.faults edge.new.datagrams) → ⊥)
         → (Rose (T.faults edge.old.text) (T.faults edge.new.text) → ⊥)
         → (Rose (S.faults edge.old.shelf) (S.faults edge.new.shelf) → ⊥)
-        → (result ≡ (replayed c (D.left edge.old.datagrams) (D.torn edge.old.datagrams)).status) ⊎ (result ≡ 9) }
+        → (result ≡ (received c (D.left edge.old.datagrams) (D.torn edge.old.datagrams)).status) ⊎ (result ≡ 9) }
     // A dump: its status, what text gets, where the datagrams were connected and what is left of them.
     ensures dump_status { (most : ℕ) → dump_of words.now ≡ Some most → D.told edge.old.datagrams → IsDone result
         → result ≡ (dumped most (D.left edge.old.datagrams) (D.torn edge.old.datagrams)).status }
@@ -127,8 +128,8 @@ pub fn run<D: Datagrams, E: Emit, F: Files, S: Shelf, T: Text>(
         return status_of(tell_usage(&mut edge.text));
     };
     match task {
-        Task::Replay(settings) => {
-            let done = replay(
+        Task::Receive(settings) => {
+            let done = receive(
                 alloc,
                 &settings,
                 &mut edge.datagrams,

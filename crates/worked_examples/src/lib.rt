@@ -14,6 +14,8 @@ mod packets;
 #[cfg(test)]
 mod playing;
 #[cfg(test)]
+mod recvs;
+#[cfg(test)]
 mod replays;
 #[cfg(test)]
 mod sessions;

@@ -43,10 +43,7 @@ pub fn play(
     one_by_one: bool,
     failing: Failing<'_>,
 ) -> Result<Ran, AllocError> {
-    let mut labels = Vec::new(alloc);
-    for word in words {
-        labels.push(Label::new(String::from_str(alloc, word)?))?;
-    }
+    let labels = labels_of(alloc, words)?;
     let mut edge = edge_of(alloc, log, one_by_one, failing)?;
     let mut watchers: Vec<Box<dyn Watch>> = Vec::new(alloc);
     watchers.push(Box::new(alloc, Counter::new())?)?;
@@ -60,6 +57,15 @@ pub fn play(
         edge,
         heard,
     })
+}
+
+/// The words, as a run takes them.
+pub fn labels_of(alloc: Global, words: &[&str]) -> Result<Vec<Label>, AllocError> {
+    let mut labels = Vec::new(alloc);
+    for word in words {
+        labels.push(Label::new(String::from_str(alloc, word)?))?;
+    }
+    Ok(labels)
 }
 
 fn edge_of(

@@ -1,4 +1,4 @@
-use Rattle.std.proofs.Common.{◌≡◌, ◌++◌, ◌∙◌, sym, ap, subst, take}
+use Rattle.std.proofs.Common.{◌++◌, ◌∙◌, ap, subst, take}
 use Rattle.fcast_run.specs.Dump.{dump_lines}
 use Rattle.fcast_run.specs.Endings.{WritesPart}
 use Rattle.fcast_run.proofs.Dumping.{ended, status_is, text_is, lines_are_part, part_is_part, on_error}

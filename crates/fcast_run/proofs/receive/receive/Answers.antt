@@ -3,7 +3,7 @@ use Rattle.std.specs.Prelude.{IfOk}
 use Rattle.fcast_run.specs.Outcome.{Outcome}
 use Rattle.fcast_run.specs.Inner.Answers.{LeavesText, LeavesShelf}
 use Rattle.fcast_run.proofs.Statuses.{outcome_is}
-use Rattle.fcast_run.proofs.replay.replay.Goals as goal
+use Rattle.fcast_run.proofs.receive.receive.Goals as goal
 
 pub returns-clause-status : goal.returns-clause-status
 returns-clause-status g c = λ told.

@@ -1,7 +1,7 @@
-//! The command `replay`.
+//! Receiving a session.
 ghost use Rattle.std.specs.Prelude.{◌≡◌, ◌+◌, true, Some, IfOk, OnErr, drop};
 ghost use Rattle.edge_io.specs.Faults.{Rose};
-ghost use Rattle.fcast_run.specs.Outcome.{replayed};
+ghost use Rattle.fcast_run.specs.Outcome.{received, asked};
 ghost use Rattle.fcast_run.specs.Endings.{is_apart, is_base};
 ghost use Rattle.fcast_run.specs.Inner.Answers.{Blames, AfterTaking, LeavesText, LeavesShelf, status_of_answer};
 ghost use Rattle.fcast_run.specs.Inner.Ranges.{IsInRange};
@@ -10,11 +10,11 @@ use crate::conclude::conclude;
 use crate::fault::Fault;
 use crate::settings::Settings;
 use crate::take::gather;
-use edge_io::{Datagrams, Place, Shelf, Text};
+use edge_io::{Datagrams, Shelf, Text};
 use std::alloc::Global;
 
-/// Takes the datagrams of the log, installs the best instance, writes the report, and answers the status.
-pub fn replay<D: Datagrams, S: Shelf, T: Text>(
+/// Takes the datagrams of the place, installs the best instance, writes the report, and answers the status.
+pub fn receive<D: Datagrams, S: Shelf, T: Text>(
     alloc: Global,
     settings: &Settings,
     datagrams: &mut D,
@@ -23,15 +23,15 @@ pub fn replay<D: Datagrams, S: Shelf, T: Text>(
 ) -> Result<u8, Fault>
     requires { IsInRange settings.now }
     ensures base { IfOk result (λ s. is_base s ≡ true) }
-    ensures status { D.told datagrams.old → IfOk result (λ s. s ≡ (replayed settings.now (D.left datagrams.old) (D.torn datagrams.old)).status) }
+    ensures status { D.told datagrams.old → IfOk result (λ s. s ≡ (received settings.now (D.left datagrams.old) (D.torn datagrams.old)).status) }
     ensures text { D.told datagrams.old → T.told text.old →
-        LeavesText result (replayed settings.now (D.left datagrams.old) (D.torn datagrams.old)).report (T.written text.old) (T.written text.new) }
+        LeavesText result (received settings.now (D.left datagrams.old) (D.torn datagrams.old)).report (T.written text.old) (T.written text.new) }
     ensures unwritten { T.told text.old → OnErr result (T.written text.new ≡ T.written text.old) }
     ensures shelf { D.told datagrams.old → S.told shelf.old →
-        LeavesShelf result (replayed settings.now (D.left datagrams.old) (D.torn datagrams.old)).calls (S.holds shelf.old) (S.holds shelf.new) }
+        LeavesShelf result (received settings.now (D.left datagrams.old) (D.torn datagrams.old)).calls (S.holds shelf.old) (S.holds shelf.new) }
     ensures apart { is_apart (status_of_answer result) ≡ true → shelf.new ≡ shelf.old }
-    ensures left { D.told datagrams.old → AfterTaking result (D.left datagrams.new ≡ drop (settings.now.most + 1) (D.left datagrams.old)) }
-    ensures place { AfterTaking result (D.connected datagrams.new ≡ Some Place.Log) }
+    ensures left { D.told datagrams.old → AfterTaking result (D.left datagrams.new ≡ drop (asked settings.now.bound) (D.left datagrams.old)) }
+    ensures place { AfterTaking result (D.connected datagrams.new ≡ Some settings.now.place) }
     ensures blames { Blames result
         (Rose (D.faults datagrams.old) (D.faults datagrams.new)) (Rose (T.faults text.old) (T.faults text.new)) (Rose (S.faults shelf.old) (S.faults shelf.new)) }
 {
