@@ -4,11 +4,12 @@ use Rattle.std.specs.Prelude.{◌≢◌, ◌⊎◌, Result, Ok, Err, IfOk, OnErr
 use Rattle.std.proofs.lemmas.List.{append-nil}
 use Rattle.edge_io.specs.Shelved.{Shelved}
 use Rattle.edge_io.specs.ShelfCalls.{Call, after}
+use Rattle.fcast_run.specs.declared.sending.Sending.{Sending}
 use Rattle.fcast_run.specs.declared.settings.Settings.{Settings}
 use Rattle.fcast_run.specs.declared.fault.Fault.{Fault}
 use Rattle.fcast_run.specs.declared.task.Task.{Task}
 use Rattle.fcast_run.specs.declared.task.Task.TheVariants as tasks
-use Rattle.fcast_run.specs.Commands.{receiving_in, dump_in, receiving_of, dump_of}
+use Rattle.fcast_run.specs.Commands.{receiving_in, dump_in, send_in, receiving_of, dump_of, send_of}
 use Rattle.fcast_run.specs.declared.fault.Fault.TheVariants.{Datagrams, Text, Shelf, Memory}
 use Rattle.fcast_run.specs.Endings.{is_base, is_apart, is_at_end, IsDone, WritesPart}
 use Rattle.fcast_run.specs.Inner.Answers.{status_of, status_of_answer, Blames, LeavesText, LeavesShelf}
@@ -26,6 +27,10 @@ receiving_is read task settings words some is of = sym (ap (option_and_then rece
 pub dump_is : (read : Option Task) (task : Task) (most : ℕ) (words : List (List ℕ)) → read ≡ Some task → task ≡ tasks.Dump most
     → option_and_then dump_in read ≡ dump_of words → Some most ≡ dump_of words
 dump_is read task most words some is of = sym (ap (option_and_then dump_in) (some ∙ ap Some is)) ∙ of
+
+pub send_is : (read : Option Task) (task : Task) (sending : Sending) (words : List (List ℕ)) → read ≡ Some task → task ≡ tasks.Send sending
+    → option_and_then send_in read ≡ send_of words → Some sending ≡ send_of words
+send_is read task sending words some is of = sym (ap (option_and_then send_in) (some ∙ ap Some is)) ∙ of
 
 other_status : (p : ℕ → Bool) (s n : ℕ) → p s ≡ true → p n ≡ false → s ≢ n
 other_status p s n passes fails e = absurd (let both : true ≡ false = sym passes ∙ (ap p e ∙ fails) in cc)

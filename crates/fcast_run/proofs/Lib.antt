@@ -4,5 +4,6 @@ pub mod Headline
 pub mod Installing
 pub mod Lists
 pub mod Ranges
+pub mod Sends
 pub mod Statuses
 pub mod Taking

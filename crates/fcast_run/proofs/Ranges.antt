@@ -1,36 +1,35 @@
--- A receiver's settings are in their ranges, and so is the port of a command.
-use Rattle.std.proofs.Common.{◌≡◌, ℕ, ◌≤◌, Bool, true, false, ◌&&◌, List, [], ◌∷◌, refl, subst, arith, Option, Some, None}
+-- The numbers of a command are in the ranges of its options.
+use Rattle.std.proofs.Common.{◌≡◌, ℕ, ◌≤◌, ◌<◌, ◌^◌, Bool, true, false, ◌&&◌, List, [], ◌∷◌, refl, subst, arith, Option, Some, None}
 use Rattle.std.specs.Prelude.{if◌then◌else◌, option_and_then, option_map}
+use Rattle.std.specs.Option.{ForSome}
 use Rattle.std.specs.Str.Parse.{digits_value}
 use Rattle.std.proofs.lemmas.Bool.Decides.{nat_tests}
+use Rattle.edge_io.specs.declared.place.Place.{Place}
 use Rattle.fcast_words.specs.Numbers.{is_numeral, is_in, number_in, number_or}
 use Rattle.fcast_words.specs.Pairs.{Pairs, given, map_of}
 use Rattle.fcast_words.specs.Addresses.{address_of}
 use Rattle.fcast_words.specs.Table as table
-use Rattle.fcast_words.specs.Table.{NumberOption, command_named, options_of}
-use Rattle.fcast_words.specs.Words.{value_of, place_of, source_of, command_with, command_of}
+use Rattle.fcast_words.specs.Table.{command_named, options_of}
+use Rattle.fcast_words.specs.Words.{value_of, place_of, port_of, source_of, command_with, command_of}
 use Rattle.fcast_words.specs.declared.command.Command.{Command}
+use Rattle.fcast_words.specs.declared.command.Command.TheVariants as commands
 use Rattle.fcast_words.specs.declared.command_word.CommandWord.{CommandWord}
 use Rattle.fcast_words.specs.declared.command_word.CommandWord.TheVariants as word
-use Rattle.fcast_run.specs.Commands.{task_of, receiving_in, receiving_of}
-use Rattle.fcast_run.specs.Inner.Ranges.{HasPort, IfInRange}
+use Rattle.fcast_run.specs.Commands as specs
+use Rattle.fcast_run.specs.Commands.{task_of, receiving_in, send_in, receiving_of, send_of, sending_of}
+use Rattle.fcast_run.specs.Inner.Ranges.{AreReceiving, AreSending, HasNumbers, IsPort, IfInRange, IfSending}
 
--- a command's settings are in their ranges, where it has some, and so is its port
-record IsFit (c : Command) : Type 0 where
-  settings : IfInRange (option_and_then receiving_in (task_of c))
-  port : HasPort c
+abbrev IfNumbers : Option Command → Type 0
+IfNumbers None = Unit {0}
+IfNumbers (Some c) = HasNumbers c
 
-abbrev IfFit : Option Command → Type 0
-IfFit None = Unit {0}
-IfFit (Some c) = IsFit c
+then_has : {A : Type 0} (f : A → Option Command) (o : Option A) → ((x : A) → o ≡ Some x → IfNumbers (f x)) → IfNumbers (option_and_then f o)
+then_has f None all = tt
+then_has f (Some x) all = all x refl
 
-then_fit : {A : Type 0} (f : A → Option Command) (o : Option A) → ((x : A) → o ≡ Some x → IfFit (f x)) → IfFit (option_and_then f o)
-then_fit f None all = tt
-then_fit f (Some x) all = all x refl
-
-map_fit : {A : Type 0} (f : A → Command) (o : Option A) → ((x : A) → o ≡ Some x → IsFit (f x)) → IfFit (option_map f o)
-map_fit f None all = tt
-map_fit f (Some x) all = all x refl
+map_has : {A : Type 0} (f : A → Command) (o : Option A) → ((x : A) → o ≡ Some x → HasNumbers (f x)) → IfNumbers (option_map f o)
+map_has f None all = tt
+map_has f (Some x) all = all x refl
 
 -- ---- the number of an option is in its range
 
@@ -59,60 +58,113 @@ number_or_none least greatest (Some text) v e = number_fits least greatest text 
 
 -- ---- each command
 
-replay_fits : (ps : Pairs) → IfFit (command_with word.Replay ps)
-replay_fits ps =
-    then_fit _ (value_of table.tsi ps) (λ tsi is_tsi. then_fit _ (value_of table.budget ps) (λ budget is_budget. map_fit _ (value_of table.most ps) (λ most is_most.
+receiving_has : (ps : Pairs) (tsi budget : ℕ) → value_of table.tsi ps ≡ Some tsi → value_of table.budget ps ≡ Some budget → AreReceiving tsi budget
+receiving_has ps tsi budget is_tsi is_budget =
     let t = number_or_fits 0 281474976710655 1 (given table.tsi.word ps) tsi (omega arith) (omega arith) is_tsi in
     let b = number_or_fits 4096 1073741824 67108864 (given table.budget.word ps) budget (omega arith) (omega arith) is_budget in
-    record { settings = record { tsi = omega (arith, t.1); least = b.0; most = omega (arith, b.1) }; port = tt })))
+    record { tsi = omega (arith, t.1); least = b.0; most = omega (arith, b.1) }
 
-recv_fits : (ps : Pairs) → IfFit (command_with word.Recv ps)
-recv_fits ps =
-    then_fit _ (value_of table.tsi ps) (λ tsi is_tsi. then_fit _ (value_of table.budget ps) (λ budget is_budget.
-    then_fit _ (option_and_then address_of (given table.addr ps)) (λ addr _. then_fit _ (value_of table.port ps) (λ port is_port.
-    map_fit _ (value_of table.count ps) (λ count _.
-    let t = number_or_fits 0 281474976710655 1 (given table.tsi.word ps) tsi (omega arith) (omega arith) is_tsi in
-    let b = number_or_fits 4096 1073741824 67108864 (given table.budget.word ps) budget (omega arith) (omega arith) is_budget in
+recv_has : (ps : Pairs) → IfNumbers (command_with word.Recv ps)
+recv_has ps =
+    then_has _ (value_of table.tsi ps) (λ tsi is_tsi. then_has _ (value_of table.budget ps) (λ budget is_budget.
+    then_has _ (option_and_then address_of (given table.addr ps)) (λ addr _. then_has _ (value_of table.port ps) (λ port is_port.
+    map_has _ (value_of table.count ps) (λ count _.
     let p = number_or_none 1 65535 (given table.port.word ps) port is_port in
-    record { settings = record { tsi = omega (arith, t.1); least = b.0; most = omega (arith, b.1) }; port = omega (arith, p.1) })))))
+    (receiving_has ps tsi budget is_tsi is_budget, omega (arith, p.1))))))
 
-send_fits : (ps : Pairs) → IfFit (command_with word.Send ps)
-send_fits ps =
-    then_fit _ (given table.catalog ps) (λ catalog _. then_fit _ (place_of (given table.addr ps) (given table.port.word ps)) (λ place _.
-    then_fit _ (value_of table.symbol ps) (λ symbol _. then_fit _ (value_of table.block ps) (λ block _.
-    then_fit _ (value_of table.maxn ps) (λ maxn _. then_fit _ (value_of table.cycles ps) (λ cycles _.
-    map_fit _ (value_of table.sent_tsi ps) (λ tsi _. record { settings = tt; port = tt })))))))
+-- the port of a place that is given
+of_address : (addr : Option (List ℕ)) (port : Option ℕ) (place : Option (List ℕ) × Option ℕ)
+    → option_and_then (λ a. option_map (λ p. (Some a, Some p)) port) addr ≡ Some place → ((p : ℕ) → port ≡ Some p → IsPort p) → ForSome place.1 IsPort
+of_address None port place is fits = cc
+of_address (Some a) None place is fits = cc
+of_address (Some a) (Some p) place is fits = λ q given. fits q (let same : (Some a, Some p) ≡ place = cc in let named : Some p ≡ place.1 = cc in cc)
 
-listen_fits : (ps : Pairs) → IfFit (command_with word.Listen ps)
-listen_fits ps =
-    then_fit _ (value_of table.tsi ps) (λ tsi _. then_fit _ (value_of table.budget ps) (λ budget _. then_fit _ (value_of table.most ps) (λ most _.
-    then_fit _ (source_of (given table.addr ps) (given table.port.word ps) (given table.count.word ps)) (λ source _.
-    map_fit _ (value_of table.readers ps) (λ readers _. record { settings = tt; port = tt })))))
+port_fits : (addr port : Option (List ℕ)) (place : Option (List ℕ) × Option ℕ) → place_of addr port ≡ Some place → ForSome place.1 IsPort
+port_fits None None place is = λ q given. let same : (None, None) ≡ place = cc in cc
+port_fits (Some a) (Some p) place is = of_address (address_of a) (port_of p) place is (λ q given. let f = number_fits 1 65535 p q given in omega (arith, f.1))
+port_fits None (Some p) place is = cc
+port_fits (Some a) None place is = cc
 
-command_fits : (word : CommandWord) (ps : Pairs) → IfFit (command_with word ps)
-command_fits word.Replay ps = replay_fits ps
-command_fits word.Recv ps = recv_fits ps
-command_fits word.Send ps = send_fits ps
-command_fits word.Dump ps = map_fit _ (value_of table.most ps) (λ most _. record { settings = tt; port = tt })
-command_fits word.Drill ps = map_fit _ (value_of table.start ps) (λ start _. record { settings = tt; port = tt })
-command_fits word.Listen ps = listen_fits ps
+send_has : (ps : Pairs) → IfNumbers (command_with word.Send ps)
+send_has ps =
+    then_has _ (given table.catalog ps) (λ catalog _. then_has _ (place_of (given table.addr ps) (given table.port.word ps)) (λ place is_place.
+    then_has _ (value_of table.symbol ps) (λ symbol is_symbol. then_has _ (value_of table.block ps) (λ block is_block.
+    then_has _ (value_of table.maxn ps) (λ maxn is_maxn. then_has _ (value_of table.cycles ps) (λ cycles is_cycles.
+    map_has _ (value_of table.sent_tsi ps) (λ tsi is_tsi.
+    let s = number_or_fits 8 65475 1024 (given table.symbol.word ps) symbol (omega arith) (omega arith) is_symbol in
+    let b = number_or_fits 1 255 64 (given table.block.word ps) block (omega arith) (omega arith) is_block in
+    let n = number_or_fits 1 255 128 (given table.maxn.word ps) maxn (omega arith) (omega arith) is_maxn in
+    let c = number_or_fits 1 1000 1 (given table.cycles.word ps) cycles (omega arith) (omega arith) is_cycles in
+    let t = number_or_fits 0 4294967295 1 (given table.sent_tsi.word ps) tsi (omega arith) (omega arith) is_tsi in
+    (record { symbol_from = s.0; symbol_to = s.1; block_from = b.0; block_to = b.1; maxn_to = n.1; cycles_from = c.0; cycles_to = c.1; tsi_to = omega (arith, t.1) },
+    port_fits (given table.addr ps) (given table.port.word ps) place is_place)))))))))
 
-fits : (words : List (List ℕ)) → IfFit (command_of words)
-fits [] = tt
-fits (name ∷ words) = then_fit _ (command_named name) (λ word _. then_fit _ (map_of (options_of word) words) (λ ps _. command_fits word ps))
+listen_has : (ps : Pairs) → IfNumbers (command_with word.Listen ps)
+listen_has ps =
+    then_has _ (value_of table.tsi ps) (λ tsi _. then_has _ (value_of table.budget ps) (λ budget _. then_has _ (value_of table.most ps) (λ most _.
+    then_has _ (source_of (given table.addr ps) (given table.port.word ps) (given table.count.word ps)) (λ source _.
+    map_has _ (value_of table.readers ps) (λ readers _. tt)))))
 
-of_command : (o : Option Command) → IfFit o → IfInRange (option_and_then receiving_in (option_and_then task_of o))
-of_command None fit = tt
-of_command (Some c) fit = fit.settings
+command_has : (word : CommandWord) (ps : Pairs) → IfNumbers (command_with word ps)
+command_has word.Replay ps =
+    then_has _ (value_of table.tsi ps) (λ tsi is_tsi. then_has _ (value_of table.budget ps) (λ budget is_budget.
+    map_has _ (value_of table.most ps) (λ most _. receiving_has ps tsi budget is_tsi is_budget)))
+command_has word.Recv ps = recv_has ps
+command_has word.Send ps = send_has ps
+command_has word.Dump ps = map_has _ (value_of table.most ps) (λ most _. tt)
+command_has word.Drill ps = map_has _ (value_of table.start ps) (λ start _. tt)
+command_has word.Listen ps = listen_has ps
+
+numbers : (words : List (List ℕ)) → IfNumbers (command_of words)
+numbers [] = tt
+numbers (name ∷ words) = then_has _ (command_named name) (λ word _. then_has _ (map_of (options_of word) words) (λ ps _. command_has word ps))
+
+-- those of the command that words are
+pub has_numbers : (words : List (List ℕ)) (c : Command) → command_of words ≡ Some c → HasNumbers c
+has_numbers words c is = subst IfNumbers is (numbers words)
+
+-- ---- what is to be done
+
+-- a send receives nothing
+none_received : (catalog : List ℕ) (symbol block maxn cycles tsi : ℕ) (place : Option Place)
+    → IfInRange (option_and_then receiving_in (option_map (sending_of catalog symbol block maxn cycles tsi) place))
+none_received catalog symbol block maxn cycles tsi None = tt
+none_received catalog symbol block maxn cycles tsi (Some place) = tt
+
+of_receiving : (o : Option Command) → IfNumbers o → IfInRange (option_and_then receiving_in (option_and_then task_of o))
+of_receiving None has = tt
+of_receiving (Some (commands.Replay tsi budget most)) has = record { tsi = has.tsi; least = has.least; most = has.most }
+of_receiving (Some (commands.Recv tsi budget addr port count)) has = record { tsi = has.0.tsi; least = has.0.least; most = has.0.most }
+of_receiving (Some (commands.Send catalog addr port symbol block maxn cycles tsi)) has =
+    none_received catalog symbol block maxn cycles tsi (specs.place_of addr port)
+of_receiving (Some (commands.Dump most)) has = tt
+of_receiving (Some (commands.Drill start)) has = tt
+of_receiving (Some (commands.Listen tsi budget most addr port count readers)) has = tt
 
 -- the settings of the receiving that words are
 pub receiving_in_range : (words : List (List ℕ)) → IfInRange (receiving_of words)
-receiving_in_range words = of_command (command_of words) (fits words)
+receiving_in_range words = of_receiving (command_of words) (numbers words)
 
-has_port : (o : Option Command) (c : Command) → IfFit o → o ≡ Some c → HasPort c
-has_port None c fit is = cc
-has_port (Some d) c fit is = subst HasPort (let h : d ≡ c = cc in h) fit.port
+of_place : (catalog : List ℕ) (symbol block maxn cycles tsi : ℕ) (place : Option Place) → AreSending symbol block maxn cycles tsi
+    → IfSending (option_and_then send_in (option_map (sending_of catalog symbol block maxn cycles tsi) place))
+of_place catalog symbol block maxn cycles tsi None are = tt
+of_place catalog symbol block maxn cycles tsi (Some place) are = record {
+  symbol_from = are.symbol_from;
+  symbol_to = are.symbol_to;
+  block = are.block_from;
+  cycles = are.cycles_from;
+}
 
--- the port of the command that words are
-pub port_in_range : (words : List (List ℕ)) (c : Command) → command_of words ≡ Some c → HasPort c
-port_in_range words c is = has_port (command_of words) c (fits words) is
+of_sending : (o : Option Command) → IfNumbers o → IfSending (option_and_then send_in (option_and_then task_of o))
+of_sending None has = tt
+of_sending (Some (commands.Replay tsi budget most)) has = tt
+of_sending (Some (commands.Recv tsi budget addr port count)) has = tt
+of_sending (Some (commands.Send catalog addr port symbol block maxn cycles tsi)) has =
+    of_place catalog symbol block maxn cycles tsi (specs.place_of addr port) has.0
+of_sending (Some (commands.Dump most)) has = tt
+of_sending (Some (commands.Drill start)) has = tt
+of_sending (Some (commands.Listen tsi budget most addr port count readers)) has = tt
+
+-- a plan can be made with what a send is told
+pub sending_in_range : (words : List (List ℕ)) → IfSending (send_of words)
+sending_in_range words = of_sending (command_of words) (numbers words)

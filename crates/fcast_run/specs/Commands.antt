@@ -1,19 +1,37 @@
 -- The commands that a run does so far.
-use Rattle.std.specs.Prelude.{Bool, ℕ, List, Option, Some, None, option_and_then, is_some}
+use Rattle.std.specs.Prelude.{Bool, ℕ, List, Option, Some, None, option_and_then, option_map, is_some}
 use Rattle.fcast_words.specs.Words.{command_of}
 use Rattle.fcast_words.specs.declared.command.Command.{Command}
 use Rattle.fcast_words.specs.declared.command.Command.TheVariants.{Replay, Recv, Send, Dump, Drill, Listen}
+use Rattle.edge_io.specs.declared.place.Place.{Place}
 use Rattle.edge_io.specs.declared.place.Place.TheVariants.{Log, Udp}
 use Rattle.fcast_run.specs.declared.bound.Bound.TheVariants.{Most, Count}
+use Rattle.fcast_run.specs.declared.sending.Sending.{Sending}
 use Rattle.fcast_run.specs.declared.settings.Settings.{Settings}
 use Rattle.fcast_run.specs.declared.task.Task.{Task}
 use Rattle.fcast_run.specs.declared.task.Task.TheVariants as tasks
+
+-- where the datagrams of a send go: without an address they are a log
+abbrev pub place_of : Option (List ℕ) → Option ℕ → Option Place
+place_of None None = Some Log
+place_of (Some addr) (Some port) = Some (Udp addr port)
+place_of addr port = None
+
+-- what a send is told
+abbrev pub sending_of : List ℕ → ℕ → ℕ → ℕ → ℕ → ℕ → Place → Task
+sending_of catalog symbol block maxn cycles tsi place =
+    tasks.Send (record {
+      catalog = catalog;
+      place = place;
+      params = record { tsi = tsi; symbol = symbol; max_block = block; max_n = maxn; cycles = cycles };
+    })
 
 -- what a command is to do, where it is built
 abbrev pub task_of : Command → Option Task
 task_of (Replay tsi budget most) = Some (tasks.Receive (record { tsi = tsi; budget = budget; place = Log; bound = Most most }))
 task_of (Recv tsi budget addr port count) = Some (tasks.Receive (record { tsi = tsi; budget = budget; place = Udp addr port; bound = Count count }))
-task_of (Send catalog addr port symbol block maxn cycles tsi) = None
+task_of (Send catalog addr port symbol block maxn cycles tsi) =
+    option_map (sending_of catalog symbol block maxn cycles tsi) (place_of addr port)
 task_of (Dump most) = Some (tasks.Dump most)
 task_of (Drill start) = None
 task_of (Listen tsi budget most addr port count readers) = None
@@ -29,10 +47,17 @@ is_command words = is_some (task_in words)
 abbrev pub receiving_in : Task → Option Settings
 receiving_in (tasks.Receive settings) = Some settings
 receiving_in (tasks.Dump most) = None
+receiving_in (tasks.Send sending) = None
 
 abbrev pub dump_in : Task → Option ℕ
 dump_in (tasks.Receive settings) = None
 dump_in (tasks.Dump most) = Some most
+dump_in (tasks.Send sending) = None
+
+abbrev pub send_in : Task → Option Sending
+send_in (tasks.Receive settings) = None
+send_in (tasks.Dump most) = None
+send_in (tasks.Send sending) = Some sending
 
 -- the settings of the receiving that the words are, where they are one: of a replay or over UDP
 abbrev pub receiving_of : List (List ℕ) → Option Settings
@@ -41,3 +66,7 @@ receiving_of words = option_and_then receiving_in (task_in words)
 -- how many datagrams the dump takes that the words are, where they are one
 abbrev pub dump_of : List (List ℕ) → Option ℕ
 dump_of words = option_and_then dump_in (task_in words)
+
+-- what the send is told that the words are, where they are one
+abbrev pub send_of : List (List ℕ) → Option Sending
+send_of words = option_and_then send_in (task_in words)

@@ -13,11 +13,23 @@ is_base s = is_one_of (0 ∷ 2 ∷ 3 ∷ 7 ∷ 11 ∷ []) s
 
 -- the statuses of a run
 abbrev pub is_status : ℕ → Bool
-is_status s = is_one_of (0 ∷ 1 ∷ 2 ∷ 3 ∷ 4 ∷ 5 ∷ 6 ∷ 7 ∷ 9 ∷ 11 ∷ []) s
+is_status s = is_one_of (0 ∷ 1 ∷ 2 ∷ 3 ∷ 4 ∷ 5 ∷ 6 ∷ 7 ∷ 8 ∷ 9 ∷ 10 ∷ 11 ∷ 12 ∷ []) s
 
 -- those at which the shelf isn't touched, whatever is told
 abbrev pub is_apart : ℕ → Bool
 is_apart s = is_one_of (1 ∷ 2 ∷ 3 ∷ 4 ∷ 11 ∷ []) s
+
+-- those of a send
+abbrev pub is_send_status : ℕ → Bool
+is_send_status s = is_one_of (0 ∷ 5 ∷ 8 ∷ 9 ∷ 10 ∷ 12 ∷ []) s
+
+-- those of a send that is refused
+abbrev pub is_refused : ℕ → Bool
+is_refused s = is_one_of (5 ∷ 8 ∷ 9 ∷ 10 ∷ []) s
+
+-- those at which the sink isn't touched, whatever is told
+abbrev pub is_unsent : ℕ → Bool
+is_unsent s = is_one_of (1 ∷ 8 ∷ 10 ∷ 12 ∷ []) s
 
 -- those at which the list was read to its end
 abbrev pub is_at_end : ℕ → Bool
@@ -45,3 +57,14 @@ pub record AcceptsFewer (calls : List Call) (old new : Shelved) : Type 0 where
   pub accepted : ℕ
   pub fewer : accepted < length calls
   pub holds : new ≡ after (take accepted calls) old
+
+-- a send came to its end or was refused: no device failed, and there was memory
+pub record IsDecided (status : ℕ) : Type 0 where
+  pub sink : status ≢ 5
+  pub memory : status ≢ 9
+  pub files : status ≢ 12
+
+-- some of the datagrams were sent: the first ones
+pub record SendsPart (datagrams old new : List (List ℕ)) : Type 0 where
+  pub sent : ℕ
+  pub list : new ≡ old ++ take sent datagrams

@@ -1,3 +1,4 @@
 pub mod HasTaken
 pub mod Answers
 pub mod Ranges
+pub mod Sends

@@ -3,5 +3,6 @@ pub mod Commands
 pub mod Outcome
 pub mod Endings
 pub mod Dump
+pub mod Send
 pub mod Headline
 pub mod Inner

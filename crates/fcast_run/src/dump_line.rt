@@ -118,7 +118,7 @@ fn hexadecimal(alloc: Global, bytes: &[u8]) -> Result<String, AllocError>
 
 /// Adds a label and a number.
 #[tactic(auto, unfolding(crate::specs::Dump::labelled))]
-fn push_labelled(
+pub fn push_labelled(
     alloc: Global,
     text: &mut String,
     label: &str,

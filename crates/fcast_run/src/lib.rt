@@ -1,6 +1,7 @@
 //! The top call: all that the program does.
 #![tactic(auto)]
 
+mod bodies;
 mod bound;
 mod command;
 mod conclude;
@@ -9,15 +10,19 @@ mod dump_line;
 mod edge;
 mod ending;
 mod fault;
+mod load;
 mod manifest;
 mod receive;
 mod report;
+mod send;
+mod sending;
 mod settings;
 mod shelve;
 mod take;
 mod task;
 mod tell;
 mod top_call;
+mod transmit;
 
 pub use edge::Edge;
 pub use top_call::run;

@@ -1,10 +1,13 @@
+use crate::sending::Sending;
 use crate::settings::Settings;
 
 /// What a run is to do.
-#[derive(Clone, Copy, PartialEq, Eq, Debug)]
+#[derive(Drop)]
 pub enum Task {
     /// Receive a session, from a packet log or over UDP.
     Receive(Settings),
     /// Print the datagrams of a log, but no more than so many.
     Dump(u64),
+    /// Send the files of a catalog.
+    Send(Sending),
 }

@@ -4,13 +4,15 @@ ghost use Rattle.edge_io.specs.Faults.{Rose};
 ghost use Rattle.edge_io.specs.ShelfCalls.{after};
 ghost use Rattle.object_store.specs.Session.{Session, IsSession};
 ghost use Rattle.object_store.specs.KeptSet.{drops};
-ghost use Rattle.fcast_run.specs.Commands.{is_command, receiving_of, dump_of};
+ghost use Rattle.fcast_run.specs.Commands.{is_command, receiving_of, dump_of, send_of};
 ghost use Rattle.fcast_run.specs.Texts.{usage_line};
 ghost use Rattle.fcast_run.specs.Outcome.{received, asked, datagrams_taken, packets_taken};
 ghost use Rattle.fcast_run.specs.Dump.{dumped};
-ghost use Rattle.fcast_run.specs.Endings.{is_status, is_apart, IsDone, WritesPart, AcceptsPart, AcceptsFewer};
+ghost use Rattle.fcast_run.specs.Send.{sent};
+ghost use Rattle.fcast_run.specs.Endings.{is_status, is_apart, is_unsent, IsDone, IsDecided, WritesPart, SendsPart, AcceptsPart, AcceptsFewer};
 ghost use Rattle.fcast_run.specs.Headline.{IsDatagramOf, InstallsBest};
 ghost use Rattle.fcast_run.specs.Inner.Answers.{status_of_answer};
+ghost use Rattle.fcast_run.specs.declared.sending.Sending.{Sending};
 ghost use Rattle.fcast_run.specs.declared.settings.Settings.{Settings};
 
 use crate::command::read_task;
@@ -18,6 +20,7 @@ use crate::dump::dump;
 use crate::edge::Edge;
 use crate::fault::Fault;
 use crate::receive::receive;
+use crate::send::send;
 use crate::task::Task;
 use crate::tell::tell_usage;
 use edge_io::{Datagrams, Emit, Files, Place, Shelf, Text};
@@ -67,7 +70,7 @@ pub fn run<D: Datagrams, E: Emit, F: Files, S: Shelf, T: Text>(
     ensures usage { is_command words.now ≡ false → result ≢ 5 → result ≢ 9 → result ≡ 1 }
     ensures command { result ≡ 1 → is_command words.now ≡ false }
     ensures datagrams_failed { result ≡ 4 → Rose (D.faults edge.old.datagrams) (D.faults edge.new.datagrams) }
-    ensures text_failed { result ≡ 5 → Rose (T.faults edge.old.text) (T.faults edge.new.text) }
+    ensures text_failed { send_of words.now ≡ None → result ≡ 5 → Rose (T.faults edge.old.text) (T.faults edge.new.text) }
     ensures shelf_failed { result ≡ 6 → Rose (S.faults edge.old.shelf) (S.faults edge.new.shelf) }
     // What text gets.
     ensures report { (c : Settings) → receiving_of words.now ≡ Some c → D.told edge.old.datagrams → T.told edge.old.text → IsDone result →
@@ -93,10 +96,10 @@ pub fn run<D: Datagrams, E: Emit, F: Files, S: Shelf, T: Text>(
     ensures place { (c : Settings) → receiving_of words.now ≡ Some c → result ≢ 4 → result ≢ 9 → D.connected edge.new.datagrams ≡ Some c.place }
     ensures left { (c : Settings) → receiving_of words.now ≡ Some c → D.told edge.old.datagrams → result ≢ 4 → result ≢ 9 →
         D.left edge.new.datagrams ≡ drop (asked c.bound) (D.left edge.old.datagrams) }
-    ensures datagrams_left { is_command words.now ≡ false → edge.new.datagrams ≡ edge.old.datagrams }
+    ensures datagrams_left { receiving_of words.now ≡ None → dump_of words.now ≡ None → edge.new.datagrams ≡ edge.old.datagrams }
     ensures shelf_left { receiving_of words.now ≡ None → edge.new.shelf ≡ edge.old.shelf }
-    ensures emit { edge.new.emit ≡ edge.old.emit }
-    ensures files { edge.new.files ≡ edge.old.files }
+    ensures emit { send_of words.now ≡ None → edge.new.emit ≡ edge.old.emit }
+    ensures files { send_of words.now ≡ None → edge.new.files ≡ edge.old.files }
     ensures watchers { watchers.new.items ≡ watchers.old.items }
     // Where no device failed in this call, the status is the outcome's, or 9.
     ensures complete { (c : Settings) → receiving_of words.now ≡ Some c → D.told edge.old.datagrams
@@ -119,6 +122,29 @@ pub fn run<D: Datagrams, E: Emit, F: Files, S: Shelf, T: Text>(
         → (Rose (D.faults edge.old.datagrams) (D.faults edge.new.datagrams) → ⊥)
         → (Rose (T.faults edge.old.text) (T.faults edge.new.text) → ⊥)
         → (result ≡ (dumped most (D.left edge.old.datagrams) (D.torn edge.old.datagrams)).status) ⊎ (result ≡ 9) }
+    // A send: its status, and what the sink and the text get.
+    ensures send_status { (s : Sending) → send_of words.now ≡ Some s → F.told edge.old.files → IsDecided result
+        → result ≡ (sent (F.found edge.old.files) s).status }
+    ensures send_sent { (s : Sending) → send_of words.now ≡ Some s → F.told edge.old.files → E.told edge.old.emit → IsDecided result
+        → E.sent edge.new.emit ≡ E.sent edge.old.emit ++ (sent (F.found edge.old.files) s).datagrams }
+    ensures send_part { (s : Sending) → send_of words.now ≡ Some s → F.told edge.old.files → E.told edge.old.emit → (result ≡ 5) ⊎ (result ≡ 9)
+        → SendsPart (sent (F.found edge.old.files) s).datagrams (E.sent edge.old.emit) (E.sent edge.new.emit) }
+    ensures send_text { (s : Sending) → send_of words.now ≡ Some s → F.told edge.old.files → T.told edge.old.text → IsDecided result
+        → T.written edge.new.text ≡ T.written edge.old.text ++ (sent (F.found edge.old.files) s).line }
+    ensures send_text_part { (s : Sending) → send_of words.now ≡ Some s → F.told edge.old.files → T.told edge.old.text → (result ≡ 5) ⊎ (result ≡ 9)
+        → WritesPart (sent (F.found edge.old.files) s).line (T.written edge.old.text) (T.written edge.new.text) }
+    ensures send_text_at_12 { T.told edge.old.text → result ≡ 12 → T.written edge.new.text ≡ T.written edge.old.text }
+    ensures emit_alone { is_unsent result ≡ true → edge.new.emit ≡ edge.old.emit }
+    ensures send_place { (s : Sending) → send_of words.now ≡ Some s → result ≡ 0 → E.connected edge.new.emit ≡ Some s.place }
+    ensures files_failed { result ≡ 12 → Rose (F.faults edge.old.files) (F.faults edge.new.files) }
+    ensures missed { result ≡ 10 → Rose (F.misses edge.old.files) (F.misses edge.new.files) }
+    ensures send_failed { (s : Sending) → send_of words.now ≡ Some s → result ≡ 5
+        → Rose (E.faults edge.old.emit) (E.faults edge.new.emit) ⊎ Rose (T.faults edge.old.text) (T.faults edge.new.text) }
+    ensures send_complete { (s : Sending) → send_of words.now ≡ Some s → F.told edge.old.files
+        → (Rose (F.faults edge.old.files) (F.faults edge.new.files) → ⊥)
+        → (Rose (E.faults edge.old.emit) (E.faults edge.new.emit) → ⊥)
+        → (Rose (T.faults edge.old.text) (T.faults edge.new.text) → ⊥)
+        → (result ≡ (sent (F.found edge.old.files) s).status) ⊎ (result ≡ 9) }
 {
     let _ = watchers;
     let Ok(task) = read_task(alloc, words) else {
@@ -142,6 +168,13 @@ pub fn run<D: Datagrams, E: Emit, F: Files, S: Shelf, T: Text>(
             let done = dump(alloc, most, &mut edge.datagrams, &mut edge.text);
             status_of(done)
         }
+        Task::Send(sending) => send(
+            alloc,
+            &sending,
+            &mut edge.files,
+            &mut edge.emit,
+            &mut edge.text,
+        ),
     }
 }
 

@@ -1,7 +1,10 @@
--- The ranges of a receiver's settings, and of a command's port.
-use Rattle.std.specs.Prelude.{◌≤◌, ◌<◌, ◌^◌, Option, Some, None}
+-- The ranges of a receiver's settings, of what a send is told, and of a command's numbers.
+use Rattle.std.specs.Prelude.{ℕ, ◌≤◌, ◌<◌, ◌^◌, Option, Some, None}
+use Rattle.std.specs.Option.{ForSome}
+use Rattle.sender_plan.specs.declared.params.Params.{Params}
 use Rattle.fcast_words.specs.declared.command.Command.{Command}
 use Rattle.fcast_words.specs.declared.command.Command.TheVariants.{Replay, Recv, Send, Dump, Drill, Listen}
+use Rattle.fcast_run.specs.declared.sending.Sending.{Sending}
 use Rattle.fcast_run.specs.declared.settings.Settings.{Settings}
 
 pub record IsInRange (c : Settings) : Type 0 where
@@ -13,11 +16,41 @@ abbrev pub IfInRange : Option Settings → Type 0
 IfInRange None = Unit {0}
 IfInRange (Some c) = IsInRange c
 
--- the port that datagrams are received at is one
-abbrev pub HasPort : Command → Type 0
-HasPort (Replay tsi budget most) = Unit {0}
-HasPort (Recv tsi budget addr port count) = port < 2 ^ 16
-HasPort (Send catalog addr port symbol block maxn cycles tsi) = Unit {0}
-HasPort (Dump most) = Unit {0}
-HasPort (Drill start) = Unit {0}
-HasPort (Listen tsi budget most addr port count readers) = Unit {0}
+-- a plan can be made with these
+pub record AreParams (p : Params) : Type 0 where
+  pub symbol_from : 8 ≤ p.symbol
+  pub symbol_to : p.symbol ≤ 65475
+  pub block : 1 ≤ p.max_block
+  pub cycles : 1 ≤ p.cycles
+
+abbrev pub IfSending : Option Sending → Type 0
+IfSending None = Unit {0}
+IfSending (Some s) = AreParams s.params
+
+-- ---- the numbers of a command as its words give them
+
+abbrev pub IsPort : ℕ → Type 0
+IsPort port = port < 2 ^ 16
+
+pub record AreReceiving (tsi budget : ℕ) : Type 0 where
+  pub tsi : tsi < 2 ^ 48
+  pub least : 4096 ≤ budget
+  pub most : budget ≤ 2 ^ 30
+
+pub record AreSending (symbol block maxn cycles tsi : ℕ) : Type 0 where
+  pub symbol_from : 8 ≤ symbol
+  pub symbol_to : symbol ≤ 65475
+  pub block_from : 1 ≤ block
+  pub block_to : block ≤ 255
+  pub maxn_to : maxn ≤ 255
+  pub cycles_from : 1 ≤ cycles
+  pub cycles_to : cycles ≤ 1000
+  pub tsi_to : tsi < 2 ^ 32
+
+abbrev pub HasNumbers : Command → Type 0
+HasNumbers (Replay tsi budget most) = AreReceiving tsi budget
+HasNumbers (Recv tsi budget addr port count) = AreReceiving tsi budget × IsPort port
+HasNumbers (Send catalog addr port symbol block maxn cycles tsi) = AreSending symbol block maxn cycles tsi × ForSome port IsPort
+HasNumbers (Dump most) = Unit {0}
+HasNumbers (Drill start) = Unit {0}
+HasNumbers (Listen tsi budget most addr port count readers) = Unit {0}

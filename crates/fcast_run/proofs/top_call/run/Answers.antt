@@ -1,6 +1,6 @@
 use Rattle.std.proofs.Common.{◌≡◌, inr}
 use Rattle.fcast_run.specs.Endings.{IsDone}
-use Rattle.fcast_run.proofs.Answered.{ends_of, for_value, receiving_is, dump_is, done_at_end, if_done, text_if_done, shelf_if_done, if_stopped, nothing_written, complete}
+use Rattle.fcast_run.proofs.Answered.{ends_of, for_value, receiving_is, dump_is, send_is, done_at_end, if_done, text_if_done, shelf_if_done, if_stopped, nothing_written, complete}
 use Rattle.fcast_run.proofs.Headline.{headline, at_end_of, at_end_of_few}
 use Rattle.fcast_run.proofs.Statuses.{over_of, none_over_of}
 use Rattle.fcast_run.proofs.top_call.run.Goals as goal
@@ -54,3 +54,18 @@ returns-in-Dump-clause-dump_complete g c =
     let ends = ends_of c.dump-done.result c.status_of-in-Dump.result c.status_of-in-Dump.ensures done.base in
     for_value _ _ c.in-Dump.most (dump_is _ _ _ c.args.words.now c.in-Some.is c.in-Dump.is c.in-Ok.ensures.dump) (λ told datagrams text.
     complete c.dump-done.result c.status_of-in-Dump.result _ _ _ ⊥ ends datagrams text (λ none. none) done.blames (done.status told))
+
+pub returns-in-Send-clause-send_part : goal.returns-in-Send-clause-send_part
+returns-in-Send-clause-send_part g c =
+    for_value _ _ c.in-Send.sending (send_is _ _ _ c.args.words.now c.in-Some.is c.in-Send.is c.in-Ok.ensures.send)
+    (λ files emit stopped. c.send.ensures.part files emit stopped)
+
+pub returns-in-Send-clause-send_text_part : goal.returns-in-Send-clause-send_text_part
+returns-in-Send-clause-send_text_part g c =
+    for_value _ _ c.in-Send.sending (send_is _ _ _ c.args.words.now c.in-Some.is c.in-Send.is c.in-Ok.ensures.send)
+    (λ files text stopped. c.send.ensures.text_part files text stopped)
+
+pub returns-in-Send-clause-send_complete : goal.returns-in-Send-clause-send_complete
+returns-in-Send-clause-send_complete g c =
+    for_value _ _ c.in-Send.sending (send_is _ _ _ c.args.words.now c.in-Some.is c.in-Send.is c.in-Ok.ensures.send)
+    (λ told files emit text. c.send.ensures.complete told files emit text)
