@@ -62,7 +62,7 @@ receiving_has : (ps : Pairs) (tsi budget : ℕ) → value_of table.tsi ps ≡ So
 receiving_has ps tsi budget is_tsi is_budget =
     let t = number_or_fits 0 281474976710655 1 (given table.tsi.word ps) tsi (omega arith) (omega arith) is_tsi in
     let b = number_or_fits 4096 1073741824 67108864 (given table.budget.word ps) budget (omega arith) (omega arith) is_budget in
-    record { tsi = omega (arith, t.1); least = b.0; most = omega (arith, b.1) }
+    record { tsi_to = omega (arith, t.1); least = b.0; most = omega (arith, b.1) }
 
 recv_has : (ps : Pairs) → IfNumbers (command_with word.Recv ps)
 recv_has ps =
@@ -70,7 +70,7 @@ recv_has ps =
     then_has _ (option_and_then address_of (given table.addr ps)) (λ addr _. then_has _ (value_of table.port ps) (λ port is_port.
     map_has _ (value_of table.count ps) (λ count _.
     let p = number_or_none 1 65535 (given table.port.word ps) port is_port in
-    (receiving_has ps tsi budget is_tsi is_budget, omega (arith, p.1))))))
+    (receiving_has ps tsi budget is_tsi is_budget, omega (arith, p.1)))))))
 
 -- the port of a place that is given
 of_address : (addr : Option (List ℕ)) (port : Option ℕ) (place : Option (List ℕ) × Option ℕ)
@@ -97,7 +97,7 @@ send_has ps =
     let c = number_or_fits 1 1000 1 (given table.cycles.word ps) cycles (omega arith) (omega arith) is_cycles in
     let t = number_or_fits 0 4294967295 1 (given table.sent_tsi.word ps) tsi (omega arith) (omega arith) is_tsi in
     (record { symbol_from = s.0; symbol_to = s.1; block_from = b.0; block_to = b.1; maxn_to = n.1; cycles_from = c.0; cycles_to = c.1; tsi_to = omega (arith, t.1) },
-    port_fits (given table.addr ps) (given table.port.word ps) place is_place)))))))))
+    port_fits (given table.addr ps) (given table.port.word ps) place is_place))))))))
 
 listen_has : (ps : Pairs) → IfNumbers (command_with word.Listen ps)
 listen_has ps =
@@ -133,8 +133,8 @@ none_received catalog symbol block maxn cycles tsi (Some place) = tt
 
 of_receiving : (o : Option Command) → IfNumbers o → IfInRange (option_and_then receiving_in (option_and_then task_of o))
 of_receiving None has = tt
-of_receiving (Some (commands.Replay tsi budget most)) has = record { tsi = has.tsi; least = has.least; most = has.most }
-of_receiving (Some (commands.Recv tsi budget addr port count)) has = record { tsi = has.0.tsi; least = has.0.least; most = has.0.most }
+of_receiving (Some (commands.Replay tsi budget most)) has = record { tsi = has.tsi_to; least = has.least; most = has.most }
+of_receiving (Some (commands.Recv tsi budget addr port count)) has = record { tsi = has.0.tsi_to; least = has.0.least; most = has.0.most }
 of_receiving (Some (commands.Send catalog addr port symbol block maxn cycles tsi)) has =
     none_received catalog symbol block maxn cycles tsi (specs.place_of addr port)
 of_receiving (Some (commands.Dump most)) has = tt

@@ -33,7 +33,7 @@ abbrev pub IsPort : ℕ → Type 0
 IsPort port = port < 2 ^ 16
 
 pub record AreReceiving (tsi budget : ℕ) : Type 0 where
-  pub tsi : tsi < 2 ^ 48
+  pub tsi_to : tsi < 2 ^ 48
   pub least : 4096 ≤ budget
   pub most : budget ≤ 2 ^ 30
 
