@@ -1,9 +1,11 @@
 pub mod Answered
+pub mod DatagramBytes
 pub mod Dumping
 pub mod Headline
 pub mod Installing
 pub mod Lists
 pub mod Ranges
 pub mod Sends
+pub mod SentSession
 pub mod Statuses
 pub mod Taking

@@ -4,5 +4,6 @@ pub mod Outcome
 pub mod Endings
 pub mod Dump
 pub mod Send
+pub mod SentSession
 pub mod Headline
 pub mod Inner

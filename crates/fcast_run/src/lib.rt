@@ -10,6 +10,7 @@ mod dump_line;
 mod edge;
 mod ending;
 mod fault;
+pub mod laws;
 mod load;
 mod manifest;
 mod receive;
