@@ -18,6 +18,10 @@ mod recvs;
 #[cfg(test)]
 mod replays;
 #[cfg(test)]
+mod sending;
+#[cfg(test)]
+mod sends;
+#[cfg(test)]
 mod sessions;
 #[cfg(test)]
 mod words;
