@@ -9,7 +9,7 @@ use Rattle.fcast_run.specs.declared.settings.Settings.{Settings}
 use Rattle.fcast_run.specs.declared.fault.Fault.{Fault}
 use Rattle.fcast_run.specs.declared.task.Task.{Task}
 use Rattle.fcast_run.specs.declared.task.Task.TheVariants as tasks
-use Rattle.fcast_run.specs.Commands.{receiving_in, dump_in, send_in, receiving_of, dump_of, send_of}
+use Rattle.fcast_run.specs.Commands.{receiving_in, dump_in, send_in, drill_in, receiving_of, dump_of, send_of, drill_of}
 use Rattle.fcast_run.specs.declared.fault.Fault.TheVariants.{Datagrams, Text, Shelf, Memory}
 use Rattle.fcast_run.specs.Endings.{is_base, is_apart, is_at_end, IsDone, WritesPart}
 use Rattle.fcast_run.specs.Inner.Answers.{status_of, status_of_answer, Blames, LeavesText, LeavesShelf}
@@ -31,6 +31,10 @@ dump_is read task most words some is of = sym (ap (option_and_then dump_in) (som
 pub send_is : (read : Option Task) (task : Task) (sending : Sending) (words : List (List ℕ)) → read ≡ Some task → task ≡ tasks.Send sending
     → option_and_then send_in read ≡ send_of words → Some sending ≡ send_of words
 send_is read task sending words some is of = sym (ap (option_and_then send_in) (some ∙ ap Some is)) ∙ of
+
+pub drill_is : (read : Option Task) (task : Task) (start : ℕ) (words : List (List ℕ)) → read ≡ Some task → task ≡ tasks.Drill start
+    → option_and_then drill_in read ≡ drill_of words → Some start ≡ drill_of words
+drill_is read task start words some is of = sym (ap (option_and_then drill_in) (some ∙ ap Some is)) ∙ of
 
 other_status : (p : ℕ → Bool) (s n : ℕ) → p s ≡ true → p n ≡ false → s ≢ n
 other_status p s n passes fails e = absurd (let both : true ≡ false = sym passes ∙ (ap p e ∙ fails) in cc)
@@ -84,6 +88,15 @@ if_stopped (Err f) result P ends stopped holds = holds
 
 pub nothing_written : (report old new : List ℕ) → new ≡ old → WritesPart report old new
 nothing_written report old new is = record { written = 0; text = is ∙ sym (append-nil old) }
+
+pub stopped_at : (s : ℕ) → (s ≡ 5) ⊎ (s ≡ 9) → IsDone s → ⊥
+stopped_at s (inl e) done = done.text e
+stopped_at s (inr e) done = done.memory e
+
+-- a fault that comes before the text leaves it as it was
+pub text_if_stopped : (answer : Result ℕ Fault) (report old new : List ℕ) → LeavesText answer report old new → OnErr answer (new ≡ old)
+text_if_stopped (Ok s) report old new leaves = tt
+text_if_stopped (Err f) report old new leaves = leaves
 
 -- where no device failed, the run came to its end, or there was no memory
 pub complete : (answer : Result ℕ Fault) (result o : ℕ) (d t s : Type 0) → Ends answer result → (d → ⊥)

@@ -1,5 +1,8 @@
 pub mod Answered
 pub mod DatagramBytes
+pub mod DrillCatalog
+pub mod DrillTaking
+pub mod Drilling
 pub mod Dumping
 pub mod Headline
 pub mod Installing

@@ -46,7 +46,7 @@ pub one_behind : {A : Type 0} (i most : ℕ) (bound : Bound) (xs : List A) (x : 
 one_behind i most bound xs x rest is all e =
     sym (next_of i xs x rest e).drop ∙ ap (λ n. drop (n + 1) xs) (all ∙ ap limit is) ∙ ap (λ b. drop (asked b) xs) (sym is)
 
-not_more : (n m : ℕ) → m ≤ n → nat_lt n m ≡ false
+pub not_more : (n m : ℕ) → m ≤ n → nat_lt n m ≡ false
 not_more n m h = grind (arith, nat_tests)
 
 is_more : (n m : ℕ) → n < m → nat_lt n m ≡ true

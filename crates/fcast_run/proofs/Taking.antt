@@ -95,6 +95,11 @@ fresh r tsi budget is = record {
   drops = ap (λ (r : Receiver). r.drops) is;
 }
 
+-- what is held with one datagram more
+pub held_one_more : (r : Receiver) (d : List ℕ) (ds : List (List ℕ)) → HasTaken r ds
+    → held_with r.tsi r.budget r.held d ≡ held_after r.budget (packets_of r.tsi (ds ++ d ∷ []))
+held_one_more r d ds has = ap (λ h. held_with r.tsi r.budget h d) has.held ∙ sym (held_at_end r.tsi r.budget nothing_held ds d)
+
 -- what taking a datagram and settling leave
 pub record TakesOne (old new : Receiver) (d : List ℕ) : Type 0 where
   pub tsi : new.tsi ≡ old.tsi
@@ -107,8 +112,7 @@ pub record TakesOne (old new : Receiver) (d : List ℕ) : Type 0 where
 pub one_more : (old new : Receiver) (d : List ℕ) (ds : List (List ℕ)) → TakesOne old new d → old.drops < 2 ^ 64 - 1 → HasTaken old ds → HasTaken new (ds ++ d ∷ [])
 one_more old new d ds one few has =
     let held : new.held ≡ held_after new.budget (packets_of new.tsi (ds ++ d ∷ [])) =
-    one.held ∙ ap (λ h. held_with old.tsi old.budget h d) has.held
-    ∙ sym (held_at_end old.tsi old.budget nothing_held ds d)
+    one.held ∙ held_one_more old d ds has
     ∙ ap (λ t. held_after old.budget (packets_of t (ds ++ d ∷ []))) (sym one.tsi)
     ∙ ap (λ b. held_after b (packets_of new.tsi (ds ++ d ∷ []))) (sym one.budget) in
     let dropped = drop_of_reply old.tsi old.budget old.held (reply d) in

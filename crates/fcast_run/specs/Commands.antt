@@ -33,7 +33,7 @@ task_of (Recv tsi budget addr port count) = Some (tasks.Receive (record { tsi = 
 task_of (Send catalog addr port symbol block maxn cycles tsi) =
     option_map (sending_of catalog symbol block maxn cycles tsi) (place_of addr port)
 task_of (Dump most) = Some (tasks.Dump most)
-task_of (Drill start) = None
+task_of (Drill start) = Some (tasks.Drill start)
 task_of (Listen tsi budget most addr port count readers) = None
 
 -- what the words are to do
@@ -48,16 +48,25 @@ abbrev pub receiving_in : Task → Option Settings
 receiving_in (tasks.Receive settings) = Some settings
 receiving_in (tasks.Dump most) = None
 receiving_in (tasks.Send sending) = None
+receiving_in (tasks.Drill start) = None
 
 abbrev pub dump_in : Task → Option ℕ
 dump_in (tasks.Receive settings) = None
 dump_in (tasks.Dump most) = Some most
 dump_in (tasks.Send sending) = None
+dump_in (tasks.Drill start) = None
 
 abbrev pub send_in : Task → Option Sending
 send_in (tasks.Receive settings) = None
 send_in (tasks.Dump most) = None
 send_in (tasks.Send sending) = Some sending
+send_in (tasks.Drill start) = None
+
+abbrev pub drill_in : Task → Option ℕ
+drill_in (tasks.Receive settings) = None
+drill_in (tasks.Dump most) = None
+drill_in (tasks.Send sending) = None
+drill_in (tasks.Drill start) = Some start
 
 -- the settings of the receiving that the words are, where they are one: of a replay or over UDP
 abbrev pub receiving_of : List (List ℕ) → Option Settings
@@ -70,3 +79,7 @@ dump_of words = option_and_then dump_in (task_in words)
 -- what the send is told that the words are, where they are one
 abbrev pub send_of : List (List ℕ) → Option Sending
 send_of words = option_and_then send_in (task_in words)
+
+-- the number that the drill starts with, where the words are one
+abbrev pub drill_of : List (List ℕ) → Option ℕ
+drill_of words = option_and_then drill_in (task_in words)

@@ -5,5 +5,6 @@ pub mod Endings
 pub mod Dump
 pub mod Send
 pub mod SentSession
+pub mod Drill
 pub mod Headline
 pub mod Inner

@@ -2,7 +2,7 @@
 ghost use Rattle.std.specs.Prelude.{◌≡◌, IfOk, is_some, option_and_then};
 ghost use Rattle.std.specs.Option.{ForSome};
 ghost use Rattle.edge_io.specs.declared.place.Place.TheVariants.{Udp};
-ghost use Rattle.fcast_run.specs.Commands.{is_command, receiving_of, dump_of, send_of, task_of, place_of, receiving_in, dump_in, send_in};
+ghost use Rattle.fcast_run.specs.Commands.{is_command, receiving_of, dump_of, send_of, drill_of, task_of, place_of, receiving_in, dump_in, send_in, drill_in};
 ghost use Rattle.fcast_run.specs.Inner.Ranges.{HasNumbers, IsPort, IfInRange, IfSending};
 
 use crate::bound::Bound;
@@ -21,6 +21,7 @@ pub fn read_task(alloc: Global, words: &[Label]) -> Result<Option<Task>, AllocEr
     ensures receiving { IfOk result (λ t. option_and_then receiving_in t ≡ receiving_of words.now) }
     ensures dump { IfOk result (λ t. option_and_then dump_in t ≡ dump_of words.now) }
     ensures send { IfOk result (λ t. option_and_then send_in t ≡ send_of words.now) }
+    ensures drill { IfOk result (λ t. option_and_then drill_in t ≡ drill_of words.now) }
     ensures ranges { IfOk result (λ t. IfInRange (option_and_then receiving_in t)) }
     ensures params { IfOk result (λ t. IfSending (option_and_then send_in t)) }
     ensures built { IfOk result (λ t. is_some t ≡ is_command words.now) }
@@ -79,6 +80,7 @@ fn task_of(command: Command) -> Option<Task>
             })),
             None => None,
         },
+        Command::Drill { start } => Some(Task::Drill(start)),
         _ => None,
     }
 }

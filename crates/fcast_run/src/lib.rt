@@ -5,6 +5,7 @@ mod bodies;
 mod bound;
 mod command;
 mod conclude;
+mod drill;
 mod dump;
 mod dump_line;
 mod edge;
@@ -25,5 +26,6 @@ mod tell;
 mod top_call;
 mod transmit;
 
+pub use drill::{Summary, drill_into};
 pub use edge::Edge;
 pub use top_call::run;

@@ -10,4 +10,6 @@ pub enum Task {
     Dump(u64),
     /// Send the files of a catalog.
     Send(Sending),
+    /// Do the drill that starts with this number.
+    Drill(u64),
 }

@@ -4,11 +4,12 @@ ghost use Rattle.edge_io.specs.Faults.{Rose};
 ghost use Rattle.edge_io.specs.ShelfCalls.{after};
 ghost use Rattle.object_store.specs.Session.{Session, IsSession};
 ghost use Rattle.object_store.specs.KeptSet.{drops};
-ghost use Rattle.fcast_run.specs.Commands.{is_command, receiving_of, dump_of, send_of};
+ghost use Rattle.fcast_run.specs.Commands.{is_command, receiving_of, dump_of, send_of, drill_of};
 ghost use Rattle.fcast_run.specs.Texts.{usage_line};
 ghost use Rattle.fcast_run.specs.Outcome.{received, asked, datagrams_taken, packets_taken};
 ghost use Rattle.fcast_run.specs.Dump.{dumped};
 ghost use Rattle.fcast_run.specs.Send.{sent};
+ghost use Rattle.fcast_run.specs.Drill.{drilled};
 ghost use Rattle.fcast_run.specs.Endings.{is_status, is_apart, is_unsent, IsDone, IsDecided, WritesPart, SendsPart, AcceptsPart, AcceptsFewer};
 ghost use Rattle.fcast_run.specs.Headline.{IsDatagramOf, InstallsBest};
 ghost use Rattle.fcast_run.specs.Inner.Answers.{status_of_answer};
@@ -16,6 +17,7 @@ ghost use Rattle.fcast_run.specs.declared.sending.Sending.{Sending};
 ghost use Rattle.fcast_run.specs.declared.settings.Settings.{Settings};
 
 use crate::command::read_task;
+use crate::drill::drill;
 use crate::dump::dump;
 use crate::edge::Edge;
 use crate::fault::Fault;
@@ -30,17 +32,19 @@ use watch_list::Watch;
 
 /// Does what the words say, and answers the status.
 ///
-/// So far there are three commands. `replay` takes the datagrams of the log, but no more than `--most`, keeps the packets
+/// There are five commands so far. `replay` takes the datagrams of the log, but no more than `--most`, keeps the packets
 /// of the session `--tsi` within the budget, installs the best instance on the shelf where the list was read to its
 /// end, and writes the report to `text`. `recv` does the same with the datagrams that come over UDP to `--addr` and
 /// `--port`, and ends its list with the last of `--count`. `dump` writes a line for each datagram of the log, but for no
-/// more than `--most`.
+/// more than `--most`. `send` plans the session of the catalog `--catalog` from its files, and sends its datagrams, as a
+/// log or to `--addr` and `--port`. `drill` sends drawn files over a link that loses, repeats and reorders datagrams by
+/// the draws that follow from `--start`, has a receiver take them, and writes what came of it.
 ///
 /// | status | meaning |
 /// |---|---|
-/// | 0 | the list was read to its end, an instance is installed, and no packet was over the budget; or it was dumped |
+/// | 0 | the list was read to its end, an instance is installed, and no packet was over the budget; or it was dumped; or it was drilled and an instance is installed |
 /// | 1 | the words are no command |
-/// | 2 | the list was read to its end, nothing is installed, and no packet was over the budget |
+/// | 2 | the list was read to its end, nothing is installed, and no packet was over the budget; or it was drilled and nothing is installed |
 /// | 3 | the log is torn |
 /// | 4, 5, 6 | the datagrams, the text, the shelf failed |
 /// | 7 | the list was read to its end, and at least one packet was over the budget |
@@ -145,6 +149,14 @@ pub fn run<D: Datagrams, E: Emit, F: Files, S: Shelf, T: Text>(
         → (Rose (E.faults edge.old.emit) (E.faults edge.new.emit) → ⊥)
         → (Rose (T.faults edge.old.text) (T.faults edge.new.text) → ⊥)
         → (result ≡ (sent (F.found edge.old.files) s).status) ⊎ (result ≡ 9) }
+    // A drill: its status and what text gets. Of the outside it touches nothing else.
+    ensures drill_status { (start : ℕ) → drill_of words.now ≡ Some start → result ≢ 5 → result ≢ 9 → result ≡ (drilled start).status }
+    ensures drill_text { (start : ℕ) → drill_of words.now ≡ Some start → T.told edge.old.text → result ≢ 5 → result ≢ 9 →
+        T.written edge.new.text ≡ T.written edge.old.text ++ (drilled start).text }
+    ensures drill_part { (start : ℕ) → drill_of words.now ≡ Some start → T.told edge.old.text → (result ≡ 5) ⊎ (result ≡ 9) →
+        WritesPart (drilled start).text (T.written edge.old.text) (T.written edge.new.text) }
+    ensures drill_complete { (start : ℕ) → drill_of words.now ≡ Some start → (Rose (T.faults edge.old.text) (T.faults edge.new.text) → ⊥)
+        → (result ≡ (drilled start).status) ⊎ (result ≡ 9) }
 {
     let _ = watchers;
     let Ok(task) = read_task(alloc, words) else {
@@ -175,6 +187,10 @@ pub fn run<D: Datagrams, E: Emit, F: Files, S: Shelf, T: Text>(
             &mut edge.emit,
             &mut edge.text,
         ),
+        Task::Drill(start) => {
+            let done = drill(alloc, start, &mut edge.text);
+            status_of(done)
+        }
     }
 }
 

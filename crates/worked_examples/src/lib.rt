@@ -4,6 +4,8 @@
 #[cfg(test)]
 mod budgets;
 #[cfg(test)]
+mod drills;
+#[cfg(test)]
 mod failures;
 #[cfg(test)]
 mod logs;

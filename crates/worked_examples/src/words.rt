@@ -23,7 +23,7 @@ fn other_words_are_no_command(rt: HostRuntime) -> Result<(), Fail> {
         &["Replay"],
         &["replay", "replay"],
         // A command that this program has no code for yet.
-        &["drill", "--start", "0"],
+        &["listen"],
     ];
     let log = log_of(alloc, &[&EMPTY_INSTANCE_DATAGRAM])?;
     for words in rows {

@@ -1,6 +1,7 @@
 use Rattle.std.proofs.Common.{◌≡◌, inr}
 use Rattle.fcast_run.specs.Endings.{IsDone}
-use Rattle.fcast_run.proofs.Answered.{ends_of, for_value, receiving_is, dump_is, send_is, done_at_end, if_done, text_if_done, shelf_if_done, if_stopped, nothing_written, complete}
+use Rattle.fcast_run.proofs.Answered.{ends_of, for_value, receiving_is, dump_is, send_is, drill_is, done_at_end, if_done, text_if_done, shelf_if_done, if_stopped, stopped_at}
+use Rattle.fcast_run.proofs.Answered.{text_if_stopped, nothing_written, complete}
 use Rattle.fcast_run.proofs.Headline.{headline, at_end_of, at_end_of_few}
 use Rattle.fcast_run.proofs.Statuses.{over_of, none_over_of}
 use Rattle.fcast_run.proofs.top_call.run.Goals as goal
@@ -69,3 +70,18 @@ pub returns-in-Send-clause-send_complete : goal.returns-in-Send-clause-send_comp
 returns-in-Send-clause-send_complete g c =
     for_value _ _ c.in-Send.sending (send_is _ _ _ c.args.words.now c.in-Some.is c.in-Send.is c.in-Ok.ensures.send)
     (λ told files emit text. c.send.ensures.complete told files emit text)
+
+pub returns-in-Drill-clause-drill_part : goal.returns-in-Drill-clause-drill_part
+returns-in-Drill-clause-drill_part g c =
+    let done = c.drill-done.ensures in
+    let ends = ends_of c.drill-done.result c.status_of-in-Drill.result c.status_of-in-Drill.ensures done.base in
+    λ start words written stopped.
+    nothing_written _ _ _ (if_stopped c.drill-done.result c.status_of-in-Drill.result _ ends
+    (stopped_at c.status_of-in-Drill.result stopped) (text_if_stopped c.drill-done.result _ _ _ (done.text written)))
+
+pub returns-in-Drill-clause-drill_complete : goal.returns-in-Drill-clause-drill_complete
+returns-in-Drill-clause-drill_complete g c =
+    let done = c.drill-done.ensures in
+    let ends = ends_of c.drill-done.result c.status_of-in-Drill.result c.status_of-in-Drill.ensures done.base in
+    for_value _ _ c.in-Drill.start (drill_is _ _ _ c.args.words.now c.in-Some.is c.in-Drill.is c.in-Ok.ensures.drill) (λ text.
+    complete c.drill-done.result c.status_of-in-Drill.result _ ⊥ _ ⊥ ends (λ none. none) text (λ none. none) done.blames done.status)

@@ -1,0 +1,63 @@
+-- What the receiver of a drill holds: that of the deliveries, or of a front of them where it was stopped.
+use Rattle.std.proofs.Common.{◌≡◌, ℕ, List, [], ◌∷◌, ◌++◌, ◌∙◌, refl, sym, ap, arith, length, take, Option}
+use Rattle.std.specs.Prelude.{Result, Ok, Err, OnOk}
+use Rattle.std.proofs.lemmas.List.{take_all}
+use Rattle.carousel_cid.specs.Instances.{Shown}
+use Rattle.object_store.specs.Held.{Held, nothing_held}
+use Rattle.object_store.specs.Verdict.{held_after}
+use Rattle.receiver_core.specs.Best.{installed_after}
+use Rattle.receiver_core.specs.Classes.{packets_of, held_with}
+use Rattle.receiver_core.specs.Receiver.{Receiver}
+use Rattle.fcast_run.specs.Drill.{HoldsPart, sent, delivered, deliveries, after_bodies, summed, summary, installed_of, summary_status, summary_lines, drilled}
+use Rattle.fcast_run.specs.declared.drill.summary.Summary.{Summary}
+use Rattle.fcast_run.specs.Inner.HasTaken.{HasTaken}
+use Rattle.fcast_run.proofs.Taking.{held_one_more}
+
+pub on_ok : {A E : Type 0} (r : Result A E) (P : Type 0) → P → OnOk r P
+on_ok (Ok a) P holds = holds
+on_ok (Err e) P holds = tt
+
+-- what is held and installed in the words of a drill
+pub held_is : (r : Receiver) (ds : List (List ℕ)) → r.tsi ≡ 1 → r.budget ≡ 67108864 → HasTaken r ds → r.held ≡ held_after 67108864 (packets_of 1 ds)
+held_is r ds tsi budget has = has.held ∙ ap (λ t. held_after r.budget (packets_of t ds)) tsi ∙ ap (λ b. held_after b (packets_of 1 ds)) budget
+
+pub installed_is : (r : Receiver) (ds : List (List ℕ)) → r.tsi ≡ 1 → r.budget ≡ 67108864 → HasTaken r ds
+    → r.installed ≡ installed_after 67108864 (packets_of 1 ds)
+installed_is r ds tsi budget has =
+    has.installed ∙ ap (λ t. installed_after r.budget (packets_of t ds)) tsi ∙ ap (λ b. installed_after b (packets_of 1 ds)) budget
+
+pub held_more_is : (r : Receiver) (held : Held) (d : List ℕ) (ds : List (List ℕ)) → r.tsi ≡ 1 → r.budget ≡ 67108864 → HasTaken r ds
+    → held ≡ held_with r.tsi r.budget r.held d → held ≡ held_after 67108864 (packets_of 1 (ds ++ d ∷ []))
+held_more_is r held d ds tsi budget has is =
+    is ∙ held_one_more r d ds has ∙ ap (λ t. held_after r.budget (packets_of t (ds ++ d ∷ []))) tsi
+    ∙ ap (λ b. held_after b (packets_of 1 (ds ++ d ∷ []))) budget
+
+-- the front of so many
+pub front_held : (held : Held) (ds all : List (List ℕ)) (n : ℕ) → ds ≡ take n all → held ≡ held_after 67108864 (packets_of 1 ds) → HoldsPart all held
+front_held held ds all n front is = record { taken = n; front = is ∙ ap (λ xs. held_after 67108864 (packets_of 1 xs)) front }
+
+pub nothing_taken : (held : Held) (all : List (List ℕ)) → held ≡ nothing_held → HoldsPart all held
+nothing_taken held all is = record { taken = 0; front = is }
+
+pub all_held : (held : Held) (all : List (List ℕ)) → held ≡ held_after 67108864 (packets_of 1 all) → HoldsPart all held
+all_held held all is = front_held held all all (length all) (sym (take_all (length all) all (omega arith))) is
+
+-- the deliveries, and what came of them
+pub are_deliveries : (start x : ℕ) (s ds : List (List ℕ)) → s ≡ sent start → x ≡ after_bodies 12 start → ds ≡ delivered x s → ds ≡ deliveries start
+unfolding deliveries
+are_deliveries start x s ds is state passed = passed ∙ ap (delivered x) is ∙ ap (λ k. delivered k (sent start)) state
+
+pub is_summary : (start n m : ℕ) (installed : Option Shown) → n ≡ length (sent start) → m ≡ length (deliveries start)
+    → installed ≡ installed_after 67108864 (packets_of 1 (deliveries start)) → summed n m installed ≡ summary start
+unfolding summary installed_of
+is_summary start n m installed many delivered shown =
+    ap (λ k. summed k m installed) many ∙ ap (λ k. summed (length (sent start)) k installed) delivered
+    ∙ ap (summed (length (sent start)) (length (deliveries start))) shown
+
+pub drilled_status : (start : ℕ) (s : Summary) → s ≡ summary start → summary_status s.installed ≡ (drilled start).status
+unfolding drilled
+drilled_status start s is = ap (λ (t : Summary). summary_status t.installed) is
+
+pub drilled_text : (start : ℕ) (s : Summary) → s ≡ summary start → summary_lines s ≡ (drilled start).text
+unfolding drilled
+drilled_text start s is = ap summary_lines is
