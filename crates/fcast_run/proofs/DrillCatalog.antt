@@ -1,5 +1,5 @@
 -- The catalog of a drill can be planned: its texts are values, its names are twelve, and its files are short.
-use Rattle.std.proofs.Common.{◌≡◌, ℕ, zero, suc, ◌+◌, ◌*◌, ◌%◌, ◌≤◌, ◌<◌, true, List, [], ◌∷◌, ◌++◌, ◌∙◌, refl, sym, ap, subst, arith, length, Option, Some, None}
+use Rattle.std.proofs.Common.{◌≡◌, ℕ, zero, suc, ◌+◌, ◌*◌, ◌%◌, ◌≤◌, ◌<◌, true, List, [], ◌∷◌, ◌++◌, ◌∙◌, refl, sym, ap, subst, arith, length, Some, None}
 use Rattle.std.specs.Prelude.{◌≢◌, All, map, nat_le, unwrap_or}
 use Rattle.std.specs.List.{range_with_len, list_all}
 use Rattle.std.specs.Fmt.{decimal, digits}

@@ -2,7 +2,7 @@
 -- and a receiver takes them. All follows from the number that the drill starts with. Where a draw stands in a
 -- definition, the state of the generator stands before it, and the state after it has a definition beside.
 use Rattle.std.specs.Prelude.{ℕ, suc, zero, ◌+◌, ◌-◌, ◌*◌, ◌/◌, ◌%◌, ◌^◌, ◌==◌, if◌then◌else◌, List, [], ◌∷◌, ◌++◌, length, take, map, replicate, codes}
-use Rattle.std.specs.Prelude.{◌≡◌, Option, Some, None, option_map, is_some}
+use Rattle.std.specs.Prelude.{◌≡◌, Option, Some, None}
 use Rattle.std.specs.List.{range_with_len, swap, sum_by}
 use Rattle.std.specs.Fmt.{decimal}
 use Rattle.carousel_cid.specs.Instances.{Shown}
