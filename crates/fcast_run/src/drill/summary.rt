@@ -22,7 +22,7 @@ pub struct Summary {
 }
 
 /// The summary of a drill in which so many datagrams were sent and delivered. It fails where the files or their bytes
-/// are too many to be counted, which no memory holds.
+/// are too many for the fields.
 pub fn summed(
     sent: u64,
     delivered: u64,
