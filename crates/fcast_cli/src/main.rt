@@ -1,15 +1,25 @@
 //! The program `fcast`: it makes the real forms of the outside and calls `run`.
 #![tactic(auto)]
 
+mod rate;
+mod tell;
+mod watchers;
+
+use crate::rate::{RateFault, asked_rate};
+use crate::tell::{tell, tell_first};
+use crate::watchers::{heard_by, listeners, tell_heard};
 use edge_io::{
-    FolderShelf, LogReader, ReaderBytes, SureEmit, SureFiles, Text, Trouble, WriterText,
+    FolderFiles, FolderShelf, PlacedDatagrams, PlacedEmit, ReaderBytes, Text, Trouble, WriterText,
 };
 use fcast_run::{Edge, run};
 use meta_text::Label;
-use std::io::{BufReader, BufWriter, Eprint, ErrorKind};
+use std::io::{BufReader, BufWriter, ErrorKind};
 use std::process::ExitCode;
 use std::rt::Env;
 use std::{env, io};
+
+/// The status for a `FCAST_RATE` that is no number, as for a faulty command.
+const NO_COMMAND: u8 = 1;
 
 /// The status for a standard output that fails.
 const TEXT_FAILED: u8 = 5;
@@ -17,7 +27,7 @@ const TEXT_FAILED: u8 = 5;
 /// The status for want of memory.
 const NO_MEMORY: u8 = 9;
 
-/// How many bytes are read from standard input, or written to standard output, at once.
+/// How many bytes are read from standard input, or written to an output, at once.
 const PIECE: usize = 65_536;
 
 fn main(rt: HostRuntime) -> ExitCode {
@@ -27,10 +37,14 @@ fn main(rt: HostRuntime) -> ExitCode {
         // Words that aren't text are no command, as no words are.
         Err(_) => Vec::new(rt.alloc()),
     };
-    let status = match run_outside(rt, words.as_slice()) {
-        Ok(status) => status,
+    let status = match asked_rate(&rt) {
         // Only a buffer's memory is asked for.
-        Err(_) => NO_MEMORY,
+        Ok(rate) => run_outside(rt, rate, words.as_slice()).unwrap_or(NO_MEMORY),
+        Err(RateFault::NoNumber) => {
+            tell(&rt, "FCAST_RATE is no number of bytes a second", &None);
+            NO_COMMAND
+        }
+        Err(RateFault::Memory) => NO_MEMORY,
     };
     if status == NO_MEMORY {
         tell(&rt, "memory", &None);
@@ -38,41 +52,59 @@ fn main(rt: HostRuntime) -> ExitCode {
     ExitCode::from(status)
 }
 
-/// Runs the command over the real forms, and says which of them failed.
-fn run_outside(rt: HostRuntime, words: &[Label]) -> io::Result<u8> {
+/// Runs the command over the real forms, and says what the watchers heard and which of the forms failed.
+fn run_outside(rt: HostRuntime, rate: u64, words: &[Label]) -> io::Result<u8> {
     let alloc = rt.alloc();
     let input = BufReader::with_capacity(alloc, PIECE, rt.stdin())?;
+    let log = BufWriter::with_capacity(alloc, PIECE, rt.stdout())?;
     let output = BufWriter::with_capacity(alloc, PIECE, rt.stdout())?;
+    let events = BufWriter::with_capacity(alloc, PIECE, rt.stderr())?;
     let mut edge = Edge {
-        datagrams: LogReader::new(ReaderBytes::new(input)),
-        emit: SureEmit::new(alloc),
-        files: SureFiles::new(Vec::new(alloc)),
+        datagrams: PlacedDatagrams::new(ReaderBytes::new(input), rt),
+        emit: PlacedEmit::new(alloc, WriterText::new(log), rt, rate),
+        files: FolderFiles::new(rt),
         shelf: FolderShelf::new(rt),
         text: WriterText::new(output),
     };
-    let mut watchers = Vec::new(alloc);
+    let mut watchers = listeners(alloc, events)?;
+    let mut heard = Vec::with_capacity(alloc, watchers.len())?;
     let status = run(alloc, words, &mut edge, &mut watchers);
-    let status = match edge.text.finish() {
-        Ok(()) => status,
-        Err(Trouble::Failed) => TEXT_FAILED,
-        Err(Trouble::Memory) => NO_MEMORY,
-    };
+    let status = ended(status, edge.emit.log.sink.finish());
+    let status = ended(status, edge.text.finish());
+    heard_by(&watchers, &mut heard)?;
+    // The lines of events that are still in the buffer go out with the one who wrote them.
+    drop(watchers);
+    tell_heard(&rt, heard.as_slice());
     match status {
-        4 => tell(&rt, "standard input", &edge.datagrams.source.failures.last),
-        5 => tell(&rt, "standard output", &edge.text.failures.last),
+        4 => tell_first(
+            &rt,
+            &[
+                ("UDP", &edge.datagrams.udp.failures.last),
+                ("standard input", &edge.datagrams.log.source.failures.last),
+            ],
+        ),
+        5 => tell_first(
+            &rt,
+            &[
+                ("UDP", &edge.emit.udp.failures.last),
+                ("standard output", &edge.emit.log.sink.failures.last),
+                ("standard output", &edge.text.failures.last),
+            ],
+        ),
         6 => tell(&rt, "installed", &edge.shelf.failures.last),
+        12 => tell(&rt, "files", &edge.files.failures.last),
         _ => {}
     }
     Ok(status)
 }
 
-/// Says in one line on standard error which part of the outside failed, and the system's words for
-/// it. Where standard error fails too, nothing is left to tell it.
-fn tell(rt: &impl Eprint, part: &str, last: &Option<io::Error>) {
-    let _told = match last {
-        Some(error) => eprintln!(rt; "fcast: {part}: {error}"),
-        None => eprintln!(rt; "fcast: {part}"),
-    };
+/// The status of a run after a text was flushed at its end.
+fn ended(status: u8, flushed: Result<(), Trouble>) -> u8 {
+    match flushed {
+        Ok(()) => status,
+        Err(Trouble::Failed) => TEXT_FAILED,
+        Err(Trouble::Memory) => NO_MEMORY,
+    }
 }
 
 /// The words behind the program's name.
