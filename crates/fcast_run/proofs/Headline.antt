@@ -35,7 +35,7 @@ use Rattle.receiver_core.proofs.Public.{best_is_best}
 
 -- ---- the packets of a session's datagrams are the session's
 
-says_reply : (d : List ℕ) → AreBytes d → Says d (reply d)
+pub says_reply : (d : List ℕ) → AreBytes d → Says d (reply d)
 says_reply d bytes = let a = some_answer d bytes in subst (λ r. Says d r) (sym (answered d a.0 a.1)) a.1
 
 of_symbol : (s : Session) (tsi : ℕ) (d : List ℕ) (q p : SymbolPacket) → IsDatagramOf s tsi d

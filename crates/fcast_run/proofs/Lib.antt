@@ -4,6 +4,7 @@ pub mod DrillCatalog
 pub mod DrillTaking
 pub mod Drilling
 pub mod Dumping
+pub mod EventLists
 pub mod Headline
 pub mod Installing
 pub mod Lists
@@ -12,3 +13,4 @@ pub mod Sends
 pub mod SentSession
 pub mod Statuses
 pub mod Taking
+pub mod Told

@@ -66,6 +66,11 @@ ends_at i (Count count) left torn e few = let l = nothing_behind i left e in rw 
 pub ends_behind : (most : ℕ) (left : List (List ℕ)) (torn : Option ℕ) → drop most left ≡ [] → ending_of (Most most) left torn ≡ ending_at torn
 ends_behind most left torn e = let l = nothing_behind most left e in rw (not_more most (length left) l) refl
 
+pub ends_last : (i most : ℕ) (bound : Bound) (left : List (List ℕ)) (torn : Option ℕ) → bound ≡ Most most → i ≡ limit bound → drop i left ≡ []
+    → ending_of bound left torn ≡ ending_at torn
+ends_last i most bound left torn is all e =
+    ap (λ b. ending_of b left torn) is ∙ ends_behind most left torn (ap (λ n. drop n left) (sym (all ∙ ap limit is)) ∙ e)
+
 pub ends_over : (most : ℕ) (left : List (List ℕ)) (torn : Option ℕ) → most + 1 ≤ length left → ending_of (Most most) left torn ≡ TooMany
 ends_over most left torn more = rw (is_more most (length left) (omega (arith, more))) refl
 

@@ -22,7 +22,7 @@ use Rattle.receiver_core.specs.declared.taken.Taken.TheVariants as taken
 use Rattle.fcast_run.specs.Inner.HasTaken.{HasTaken}
 
 -- what is held, and how many packets were over the budget, after one packet more or none
-held_more : (budget : ℕ) (held : Held) (o : Option SymbolPacket) (ps : List SymbolPacket)
+pub held_more : (budget : ℕ) (held : Held) (o : Option SymbolPacket) (ps : List SymbolPacket)
     → fold (step budget) held (cons_option o ps) ≡ fold (step budget) (held_with_packet budget held o) ps
 held_more budget held None ps = refl
 held_more budget held (Some p) ps = refl

@@ -2,3 +2,4 @@ pub mod HasTaken
 pub mod Answers
 pub mod Ranges
 pub mod Sends
+pub mod Tellings

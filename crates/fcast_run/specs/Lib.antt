@@ -7,4 +7,5 @@ pub mod Send
 pub mod SentSession
 pub mod Drill
 pub mod Headline
+pub mod Events
 pub mod Inner

@@ -10,6 +10,7 @@ mod dump;
 mod dump_line;
 mod edge;
 mod ending;
+mod events;
 mod fault;
 pub mod laws;
 mod load;
@@ -23,6 +24,7 @@ mod shelve;
 mod take;
 mod task;
 mod tell;
+mod telling;
 mod top_call;
 mod transmit;
 

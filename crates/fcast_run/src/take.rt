@@ -5,15 +5,21 @@ ghost use Rattle.fcast_run.specs.Outcome.{ending_of, limit, asked, datagrams_tak
 ghost use Rattle.fcast_run.specs.Inner.HasTaken.{HasTaken};
 ghost use Rattle.fcast_run.specs.Inner.Answers.{Blames};
 ghost use Rattle.fcast_run.specs.Inner.Ranges.{IsInRange};
+ghost use Rattle.fcast_run.specs.Inner.Tellings.{TellsEvents};
+ghost use Rattle.fcast_run.specs.Events.{events_with, HearsPart};
+ghost use Rattle.receiver_core.specs.Best.{best};
+ghost use Rattle.watch_list.specs.Hearing.{Heard};
 
 use crate::bound::Bound;
 use crate::ending::Ending;
+use crate::events::{tell_installed, tell_taken};
 use crate::fault::Fault;
 use crate::settings::Settings;
 use edge_io::{Datagrams, Next};
 use receiver_core::Receiver;
 use rs_solve::Steps;
 use std::alloc::{AllocError, Global};
+use watch_list::Watch;
 
 /// The longest datagram of a log, in bytes.
 const BUFFER: usize = 65_535;
@@ -30,6 +36,7 @@ pub fn gather<D: Datagrams>(
     alloc: Global,
     settings: &Settings,
     datagrams: &mut D,
+    watchers: &mut Vec<Box<dyn Watch>>,
 ) -> Result<Gathered, Fault>
     requires { IsInRange settings.now }
     ensures tsi { IfOk result (λ g. g.receiver.tsi ≡ settings.now.tsi) }
@@ -39,15 +46,18 @@ pub fn gather<D: Datagrams>(
     ensures left { OnOk result (D.told datagrams.old → D.left datagrams.new ≡ drop (asked settings.now.bound) (D.left datagrams.old)) }
     ensures place { OnOk result (D.connected datagrams.new ≡ Some settings.now.place) }
     ensures blames { Blames result (Rose (D.faults datagrams.old) (D.faults datagrams.new)) ⊥ ⊥ }
+    ensures events { D.told datagrams.old → TellsEvents result settings.now.tsi settings.now.budget settings.now.bound (D.left datagrams.old)
+        (λ events. Heard (λ v. number v) (λ v. record_of v) (λ v. (⟦<dyn Watch as Watch>⟧ v.vtable).told v.value) (λ v. (⟦<dyn Watch as Watch>⟧ v.vtable).faults v.value) (λ v e n. refuses v e n) events watchers.old.items watchers.new.items) }
 {
     let mut buffer = zeros(alloc, BUFFER)?;
     let mut receiver = Receiver::start(alloc, settings.tsi, settings.budget)?;
-    if datagrams.connect(&settings.place).is_err() {
+    let Ok(()) = datagrams.connect(&settings.place) else {
         return Err(Fault::Datagrams);
-    }
+    };
     let ending = take_all(
         &mut receiver,
         datagrams,
+        watchers,
         settings.bound,
         buffer.as_mut_slice(),
     )?;
@@ -58,6 +68,7 @@ pub fn gather<D: Datagrams>(
 fn take_all<D: Datagrams>(
     receiver: &mut Receiver,
     datagrams: &mut D,
+    watchers: &mut Vec<Box<dyn Watch>>,
     bound: Bound,
     buffer: &mut [u8],
 ) -> Result<Ending, Fault>
@@ -71,12 +82,14 @@ fn take_all<D: Datagrams>(
     ensures place { D.connected datagrams.new ≡ D.connected datagrams.old }
     ensures blames { Blames result (Rose (D.faults datagrams.old) (D.faults datagrams.new)) ⊥ ⊥ }
     ensures grows { D.faults datagrams.old ≤ D.faults datagrams.new }
+    ensures events { D.told datagrams.old → TellsEvents result receiver.old.tsi receiver.old.budget bound (D.left datagrams.old)
+        (λ events. Heard (λ v. number v) (λ v. record_of v) (λ v. (⟦<dyn Watch as Watch>⟧ v.vtable).told v.value) (λ v. (⟦<dyn Watch as Watch>⟧ v.vtable).faults v.value) (λ v e n. refuses v e n) events watchers.old.items watchers.new.items) }
 {
     // Nobody asks how many row steps a run takes.
     let mut steps = Steps::start(());
     for _taken in 0..bound.limit() {
         match datagrams.next(buffer) {
-            Next::Got(size) => take_one(receiver, &mut steps, &buffer[..size])?,
+            Next::Got(size) => take_one(receiver, &mut steps, watchers, &buffer[..size])?,
             Next::End => return Ok(Ending::End),
             Next::Torn(place) => return Ok(Ending::Torn(place)),
             Next::Failed => return Err(Fault::Datagrams),
@@ -93,19 +106,29 @@ fn take_all<D: Datagrams>(
     }
 }
 
-/// Takes one datagram more, and settles.
+/// Takes one datagram more, and settles. The watchers are told what became of it, and of another instance that is
+/// installed.
 fn take_one<L>(
     receiver: &mut Receiver,
     steps: &mut Steps<L>,
+    watchers: &mut Vec<Box<dyn Watch>>,
     datagram: &[u8],
 ) -> Result<(), AllocError>
     ensures taken { OnOk result ((ds : List (List ℕ)) → receiver.old.drops < 2 ^ 64 - 1 → HasTaken receiver.old ds → HasTaken receiver.new (ds ++ datagram.now ∷ [])) }
     ensures drops { receiver.new.drops ≤ receiver.old.drops + 1 }
     ensures tsi { receiver.new.tsi ≡ receiver.old.tsi }
     ensures budget { receiver.new.budget ≡ receiver.old.budget }
+    ensures events { receiver.old.installed ≡ best receiver.old.held →
+        OnOk result (Heard (λ v. number v) (λ v. record_of v) (λ v. told v) (λ v. faults v) (λ v e n. refuses v e n)
+        (events_with receiver.old.tsi receiver.old.budget receiver.old.held datagram.now) watchers.old.items watchers.new.items) }
+    ensures part { OnErr result (HearsPart (events_with receiver.old.tsi receiver.old.budget receiver.old.held datagram.now)
+        (λ events. Heard (λ v. number v) (λ v. record_of v) (λ v. told v) (λ v. faults v) (λ v e n. refuses v e n)
+        events watchers.old.items watchers.new.items)) }
 {
-    receiver.take(datagram, steps)?;
-    receiver.settle()?;
+    let taken = receiver.take(datagram, steps)?;
+    tell_taken(watchers, &taken);
+    let number = receiver.settle()?;
+    tell_installed(watchers, number);
     Ok(())
 }
 

@@ -11,6 +11,8 @@ ghost use Rattle.fcast_run.specs.Dump.{dumped};
 ghost use Rattle.fcast_run.specs.Send.{sent};
 ghost use Rattle.fcast_run.specs.Drill.{drilled};
 ghost use Rattle.fcast_run.specs.Endings.{is_status, is_apart, is_unsent, IsDone, IsDecided, WritesPart, SendsPart, AcceptsPart, AcceptsFewer};
+ghost use Rattle.fcast_run.specs.Events.{events_taken, HearsPart, HearsFirst};
+ghost use Rattle.watch_list.specs.Hearing.{Heard};
 ghost use Rattle.fcast_run.specs.Headline.{IsDatagramOf, InstallsBest};
 ghost use Rattle.fcast_run.specs.Inner.Answers.{status_of_answer};
 ghost use Rattle.fcast_run.specs.declared.sending.Sending.{Sending};
@@ -111,6 +113,16 @@ pub fn run<D: Datagrams, E: Emit, F: Files, S: Shelf, T: Text>(
         → (Rose (T.faults edge.old.text) (T.faults edge.new.text) → ⊥)
         → (Rose (S.faults edge.old.shelf) (S.faults edge.new.shelf) → ⊥)
         → (result ≡ (received c (D.left edge.old.datagrams) (D.torn edge.old.datagrams)).status) ⊎ (result ≡ 9) }
+    // What the watchers heard: what became of each datagram, and each instance that was installed then.
+    ensures events { (c : Settings) → receiving_of words.now ≡ Some c → D.told edge.old.datagrams → result ≢ 4 → result ≢ 9 →
+        Heard (λ v. number v) (λ v. record_of v) (λ v. (⟦<dyn Watch as Watch>⟧ v.vtable).told v.value) (λ v. (⟦<dyn Watch as Watch>⟧ v.vtable).faults v.value) (λ v e n. refuses v e n)
+        (events_taken c (D.left edge.old.datagrams)) watchers.old.items watchers.new.items }
+    ensures events_at_9 { (c : Settings) → receiving_of words.now ≡ Some c → D.told edge.old.datagrams → result ≡ 9 →
+        HearsPart (events_taken c (D.left edge.old.datagrams))
+        (λ events. Heard (λ v. number v) (λ v. record_of v) (λ v. (⟦<dyn Watch as Watch>⟧ v.vtable).told v.value) (λ v. (⟦<dyn Watch as Watch>⟧ v.vtable).faults v.value) (λ v e n. refuses v e n) events watchers.old.items watchers.new.items) }
+    ensures events_at_4 { (c : Settings) → receiving_of words.now ≡ Some c → D.told edge.old.datagrams → result ≡ 4 →
+        HearsFirst c.tsi c.budget (D.left edge.old.datagrams)
+        (λ events. Heard (λ v. number v) (λ v. record_of v) (λ v. (⟦<dyn Watch as Watch>⟧ v.vtable).told v.value) (λ v. (⟦<dyn Watch as Watch>⟧ v.vtable).faults v.value) (λ v e n. refuses v e n) events watchers.old.items watchers.new.items) }
     // A dump: its status, what text gets, where the datagrams were connected and what is left of them.
     ensures dump_status { (most : ℕ) → dump_of words.now ≡ Some most → D.told edge.old.datagrams → IsDone result
         → result ≡ (dumped most (D.left edge.old.datagrams) (D.torn edge.old.datagrams)).status }
@@ -158,7 +170,6 @@ pub fn run<D: Datagrams, E: Emit, F: Files, S: Shelf, T: Text>(
     ensures drill_complete { (start : ℕ) → drill_of words.now ≡ Some start → (Rose (T.faults edge.old.text) (T.faults edge.new.text) → ⊥)
         → (result ≡ (drilled start).status) ⊎ (result ≡ 9) }
 {
-    let _ = watchers;
     let Ok(task) = read_task(alloc, words) else {
         return Fault::Memory.status();
     };
@@ -173,6 +184,7 @@ pub fn run<D: Datagrams, E: Emit, F: Files, S: Shelf, T: Text>(
                 &mut edge.datagrams,
                 &mut edge.shelf,
                 &mut edge.text,
+                watchers,
             );
             status_of(done)
         }

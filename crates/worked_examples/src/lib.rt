@@ -26,4 +26,6 @@ mod sends;
 #[cfg(test)]
 mod sessions;
 #[cfg(test)]
+mod tellings;
+#[cfg(test)]
 mod words;

@@ -68,7 +68,8 @@ pub fn labels_of(alloc: Global, words: &[&str]) -> Result<Vec<Label>, AllocError
     Ok(labels)
 }
 
-fn edge_of(
+/// The outside in memory, around this log.
+pub fn edge_of(
     alloc: Global,
     log: &[u8],
     one_by_one: bool,

@@ -14,7 +14,8 @@ fn empty_instance_is_installed(rt: HostRuntime) -> Result<(), Fail> {
     for one_by_one in [false, true] {
         let ran = play(alloc, &["replay"], log.as_slice(), one_by_one, NONE)?;
         assert!(rt; is(&ran, &INSTALLS_1));
-        assert_eq!(rt; ran.heard, Some(0));
+        // A new symbol, and another instance.
+        assert_eq!(rt; ran.heard, Some(2));
     }
     Ok(())
 }

@@ -1,10 +1,12 @@
--- The ranges of a receiver's settings, of what a send is told, and of a command's numbers.
+-- The ranges of a receiver's settings, of what a send is told, of a command's numbers, and of a packet's place in its block.
 use Rattle.std.specs.Prelude.{ℕ, ◌≤◌, ◌<◌, ◌^◌, Option, Some, None}
 use Rattle.std.specs.Option.{ForSome}
 use Rattle.sender_plan.specs.declared.params.Params.{Params}
 use Rattle.fcast_words.specs.declared.command.Command.{Command}
 use Rattle.fcast_words.specs.declared.command.Command.TheVariants.{Replay, Recv, Send, Dump, Drill, Listen}
 use Rattle.fcast_run.specs.declared.sending.Sending.{Sending}
+use Rattle.receiver_core.specs.declared.taken.Taken.{Taken}
+use Rattle.receiver_core.specs.declared.taken.Taken.TheVariants.{Refused, Elsewhere, Control, Packet}
 use Rattle.fcast_run.specs.declared.settings.Settings.{Settings}
 
 pub record IsInRange (c : Settings) : Type 0 where
@@ -54,3 +56,10 @@ HasNumbers (Send catalog addr port symbol block maxn cycles tsi) = AreSending sy
 HasNumbers (Dump most) = Unit {0}
 HasNumbers (Drill start) = Unit {0}
 HasNumbers (Listen tsi budget most addr port count readers) = Unit {0}
+
+-- a packet's place in its source block fits in one byte
+abbrev pub HasPlace : Taken → Type 0
+HasPlace (Refused refusal) = Unit {0}
+HasPlace (Elsewhere tsi) = Unit {0}
+HasPlace (Control close) = Unit {0}
+HasPlace (Packet toi sbn esi kept) = esi < 2 ^ 8

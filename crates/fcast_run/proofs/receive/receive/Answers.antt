@@ -3,6 +3,7 @@ use Rattle.std.specs.Prelude.{IfOk}
 use Rattle.fcast_run.specs.Outcome.{Outcome}
 use Rattle.fcast_run.specs.Inner.Answers.{LeavesText, LeavesShelf}
 use Rattle.fcast_run.proofs.Statuses.{outcome_is}
+use Rattle.fcast_run.proofs.Told.{told_before}
 use Rattle.fcast_run.proofs.receive.receive.Goals as goal
 
 pub returns-clause-status : goal.returns-clause-status
@@ -28,3 +29,9 @@ returns-clause-shelf g c = λ told shelved.
     subst (λ (o : Outcome). LeavesShelf c.conclude.result o.calls (g.S.Shelf.holds c.args.shelf.now) (g.S.Shelf.holds c.conclude.new.shelf))
     (outcome_is c.args.settings.now _ _ gathered.receiver gathered.ending _ _ is.tsi is.budget (is.taken told) (is.ending told) c.drops.ensures c.installed.ensures)
     (c.conclude.ensures.shelf shelved)
+
+pub returns-clause-events : goal.returns-clause-events
+returns-clause-events g c = λ told.
+    let settings = c.args.settings.now in
+    told_before c.conclude.result _ _ settings.tsi settings.budget settings.bound (g.D.Datagrams.left c.args.datagrams.now) _ c.conclude.ensures.blames
+    (c.in_ok-gathered.ensures.events told)

@@ -1,6 +1,8 @@
 -- the datagrams before this one are taken
 use Rattle.std.proofs.Common.{◌≡◌, ◌≤◌, length, take, drop}
 use Rattle.fcast_run.specs.Inner.HasTaken.{HasTaken}
+use Rattle.watch_list.specs.Hearing.{Heard}
+use Rattle.fcast_run.specs.Events.{events_of}
 use Rattle.fcast_run.proofs.take.take_all.Given as goal
 
 abbrev pub invariant-loop-taken : goal.invariant-loop-taken
@@ -13,6 +15,13 @@ invariant-loop-taken g l = let D = g.D.Datagrams in record {
   left : D.told l.fn.datagrams → D.left l.datagrams ≡ drop l._taken (D.left l.fn.datagrams);
   torn : D.told l.fn.datagrams → D.torn l.datagrams ≡ D.torn l.fn.datagrams;
   taken : D.told l.fn.datagrams → HasTaken l.receiver (take l._taken (D.left l.fn.datagrams));
+  heard : D.told l.fn.datagrams → Heard
+      (λ v. (goal.Watch-dyn g (v.vtable, v.value)).number v.value)
+      (λ v. (goal.Watch-dyn g (v.vtable, v.value)).record_of v.value)
+      (λ v. (goal.Watch-dyn g (v.vtable, v.value)).told v.value)
+      (λ v. (goal.Watch-dyn g (v.vtable, v.value)).faults v.value)
+      (λ v e n. (goal.Watch-dyn g (v.vtable, v.value)).refuses v.value e n)
+      (events_of l.fn.receiver.tsi l.fn.receiver.budget (take l._taken (D.left l.fn.datagrams))) l.fn.watchers.items l.watchers.items;
   place : D.connected l.datagrams ≡ D.connected l.fn.datagrams;
   grows : D.faults l.fn.datagrams ≤ D.faults l.datagrams;
   room : 65535 ≤ length l.buffer;

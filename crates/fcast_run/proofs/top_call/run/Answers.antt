@@ -4,6 +4,8 @@ use Rattle.fcast_run.proofs.Answered.{ends_of, for_value, receiving_is, dump_is,
 use Rattle.fcast_run.proofs.Answered.{text_if_stopped, nothing_written, complete}
 use Rattle.fcast_run.proofs.Headline.{headline, at_end_of, at_end_of_few}
 use Rattle.fcast_run.proofs.Statuses.{over_of, none_over_of}
+use Rattle.fcast_run.proofs.Told.{all_told, told_at_9, told_at_4, no_event_heard}
+use Rattle.fcast_run.specs.Events.{events_taken}
 use Rattle.fcast_run.proofs.top_call.run.Goals as goal
 
 pub returns-in-Receive-clause-headline : goal.returns-in-Receive-clause-headline
@@ -85,3 +87,42 @@ returns-in-Drill-clause-drill_complete g c =
     let ends = ends_of c.drill-done.result c.status_of-in-Drill.result c.status_of-in-Drill.ensures done.base in
     for_value _ _ c.in-Drill.start (drill_is _ _ _ c.args.words.now c.in-Some.is c.in-Drill.is c.in-Ok.ensures.drill) (λ text.
     complete c.drill-done.result c.status_of-in-Drill.result _ ⊥ _ ⊥ ends (λ none. none) text (λ none. none) done.blames done.status)
+
+pub returns-in-Receive-clause-events : goal.returns-in-Receive-clause-events
+returns-in-Receive-clause-events g c =
+    let done = c.receive-done.ensures in
+    let settings = c.in-Receive.settings in
+    let ends = ends_of c.receive-done.result c.status_of-in-Receive.result c.status_of-in-Receive.ensures done.base in
+    for_value _ _ settings (receiving_is _ _ _ c.args.words.now c.in-Some.is c.in-Receive.is c.in-Ok.ensures.receiving) (λ told no_4 no_9.
+    all_told c.receive-done.result c.status_of-in-Receive.result settings.tsi settings.budget settings.bound _ _ ends (done.events told) no_4 no_9)
+
+pub returns-in-Receive-clause-events_at_9 : goal.returns-in-Receive-clause-events_at_9
+returns-in-Receive-clause-events_at_9 g c =
+    let done = c.receive-done.ensures in
+    let settings = c.in-Receive.settings in
+    let ends = ends_of c.receive-done.result c.status_of-in-Receive.result c.status_of-in-Receive.ensures done.base in
+    for_value _ _ settings (receiving_is _ _ _ c.args.words.now c.in-Some.is c.in-Receive.is c.in-Ok.ensures.receiving) (λ told nine.
+    told_at_9 c.receive-done.result c.status_of-in-Receive.result settings.tsi settings.budget settings.bound _ _ ends (done.events told) nine)
+
+pub returns-in-Receive-clause-events_at_4 : goal.returns-in-Receive-clause-events_at_4
+returns-in-Receive-clause-events_at_4 g c =
+    let done = c.receive-done.ensures in
+    let settings = c.in-Receive.settings in
+    let ends = ends_of c.receive-done.result c.status_of-in-Receive.result c.status_of-in-Receive.ensures done.base in
+    for_value _ _ settings (receiving_is _ _ _ c.args.words.now c.in-Some.is c.in-Receive.is c.in-Ok.ensures.receiving) (λ told four.
+    told_at_4 c.receive-done.result c.status_of-in-Receive.result settings.tsi settings.budget settings.bound _ _ ends (done.events told) four)
+
+pub returns-in-Receive-clause-text_at_9 : goal.returns-in-Receive-clause-text_at_9
+returns-in-Receive-clause-text_at_9 g c = λ settings words told written nine.
+    let ends = ends_of c.receive-done.result c.status_of-in-Receive.result c.status_of-in-Receive.ensures c.receive-done.ensures.base in
+    nothing_written _ _ _ (if_stopped c.receive-done.result c.status_of-in-Receive.result _
+    ends (λ (is : IsDone c.status_of-in-Receive.result). is.memory nine) (c.receive-done.ensures.unwritten written))
+
+pub returns-in_default-clause-events_at_9 : goal.returns-in_default-clause-events_at_9
+returns-in_default-clause-events_at_9 g c = λ settings words told nine. no_event_heard
+    (λ v. (goal.Watch-dyn g (v.vtable, v.value)).number v.value)
+    (λ v. (goal.Watch-dyn g (v.vtable, v.value)).record_of v.value)
+    (λ v. (goal.Watch-dyn g (v.vtable, v.value)).told v.value)
+    (λ v. (goal.Watch-dyn g (v.vtable, v.value)).faults v.value)
+    (λ v e n. (goal.Watch-dyn g (v.vtable, v.value)).refuses v.value e n)
+    (events_taken settings (g.D.Datagrams.left c.args.edge.now.datagrams)) c.args.watchers.now.items

@@ -1,0 +1,106 @@
+-- What the watchers of a run are told.
+use Rattle.std.proofs.Common.{◌≡◌, ℕ, Bool, true, false, List, [], ◌∷◌, ◌++◌, ◌∙◌, refl, sym, ap, arith, Option, Some, None, append_assoc}
+use Rattle.std.specs.Prelude.{◌==◌, if◌then◌else◌, Result, Ok, Err}
+use Rattle.std.specs.Bool.{Decides}
+use Rattle.std.specs.List.{fold}
+use Rattle.std.specs.Option.{option_eq}
+use Rattle.std.proofs.lemmas.Bool.Decides.{Decides-eqb, Decides-and, Decides-like}
+use Rattle.std.proofs.lemmas.Slice.Eq.{bytes_eq-Decides, slice_eq-Decides}
+use Rattle.wire_bytes.specs.Bytes.{AreBytes}
+use Rattle.oti_blocks.proofs.Public.{encoding_at_bounds}
+use Rattle.alc_packet.specs.Packet.{SymbolPacket, IsPacket}
+use Rattle.alc_packet.specs.Answer.{Says}
+use Rattle.alc_packet.specs.Reply.{reply}
+use Rattle.alc_packet.specs.declared.datagram.Datagram.{Datagram}
+use Rattle.alc_packet.specs.declared.datagram.Datagram.TheVariants as datagrams
+use Rattle.alc_packet.specs.declared.refusal.Refusal.{Refusal}
+use Rattle.carousel_cid.specs.Instances.{Shown}
+use Rattle.carousel_cid.specs.declared.file_of.FileOf.{FileOf}
+use Rattle.object_store.specs.Held.{Held}
+use Rattle.object_store.specs.Verdict.{step, verdict}
+use Rattle.receiver_core.specs.Best.{best}
+use Rattle.receiver_core.specs.Classes.{taken_of, taken_reply, packet_under, packets_of, held_with}
+use Rattle.receiver_core.specs.Receiver.{Announces}
+use Rattle.receiver_core.specs.declared.taken.Taken.{Taken}
+use Rattle.receiver_core.specs.declared.taken.Taken.TheVariants as taken
+use Rattle.fcast_run.specs.Events.{event_of, announcement, same_file, same_instance, other_number, events_with, events_from}
+use Rattle.fcast_run.specs.Inner.Ranges.{HasPlace}
+use Rattle.fcast_run.proofs.Headline.{says_reply}
+use Rattle.fcast_run.proofs.Taking.{held_more}
+
+-- ---- a packet's place in its block fits in one byte
+
+placed_packet : (b : Bool) (tsi budget : ℕ) (held : Held) (p : SymbolPacket) → IsPacket p
+    → HasPlace (if b then taken.Packet p.toi p.sbn p.esi (verdict budget held p) else taken.Elsewhere p.tsi)
+placed_packet true tsi budget held p is =
+    omega (arith, is.place, (encoding_at_bounds p.oti is.sound p.sbn is.block).1, is.sound.max_n_fits)
+placed_packet false tsi budget held p is = tt
+
+placed_control : (b : Bool) (t : ℕ) (close : Bool) → HasPlace (if b then taken.Control close else taken.Elsewhere t)
+placed_control true t close = tt
+placed_control false t close = tt
+
+placed_reply : (tsi budget : ℕ) (held : Held) (d : List ℕ) (r : Result Datagram Refusal) → Says d r → HasPlace (taken_reply tsi budget held r)
+placed_reply tsi budget held d (Err refusal) says = tt
+placed_reply tsi budget held d (Ok (datagrams.Symbol p)) says = placed_packet (p.tsi == tsi) tsi budget held p says.packet
+placed_reply tsi budget held d (Ok (datagrams.Control t close)) says = placed_control (t == tsi) t close
+
+pub placed : (tsi budget : ℕ) (held : Held) (d : List ℕ) → AreBytes d → HasPlace (taken_of tsi budget held d)
+placed tsi budget held d bytes = placed_reply tsi budget held d (reply d) (says_reply d bytes)
+
+-- ---- the number that a settling answers is that of another instance
+
+option_decides : {A : Type 0} {E : A → A → Bool} → ((a b : A) → Decides (E a b) (a ≡ b)) → (x y : Option A) → Decides (option_eq E x y) (x ≡ y)
+option_decides each None None = (λ _. refl, λ _. refl)
+option_decides each None (Some b) = (λ e. cc, λ e. cc)
+option_decides each (Some a) None = (λ e. cc, λ e. cc)
+option_decides each (Some a) (Some b) = (λ e. ap Some ((each a b).0 e), λ e. (each a b).1 (let h : a ≡ b = cc in h))
+
+file_decides : (f g : FileOf) → Decides (same_file f g) (f ≡ g)
+file_decides f g = Decides-like (same_file f g)
+    (λ h i. record { toi = h.0 i; location = h.1.0 i; kind = h.1.1.0 i; body = h.1.1.1 i })
+    (λ e. (ap (λ (x : FileOf). x.toi) e, (ap (λ (x : FileOf). x.location) e, (ap (λ (x : FileOf). x.kind) e, ap (λ (x : FileOf). x.body) e))))
+    (Decides-and (f.toi == g.toi) _ (Decides-eqb f.toi g.toi)
+    (Decides-and _ _ (bytes_eq-Decides f.location g.location)
+    (Decides-and _ _ (option_decides bytes_eq-Decides f.kind g.kind) (bytes_eq-Decides f.body g.body))))
+
+instance_decides : (i j : Shown) → Decides (same_instance i j) (i ≡ j)
+instance_decides i j = Decides-like (same_instance i j)
+    (λ h k. record { number = h.0 k; descriptor_toi = h.1.0 k; listed = h.1.1.0 k; files = h.1.1.1 k })
+    (λ e. (ap (λ (x : Shown). x.number) e, (ap (λ (x : Shown). x.descriptor_toi) e, (ap (λ (x : Shown). x.listed) e, ap (λ (x : Shown). x.files) e))))
+    (Decides-and (i.number == j.number) _ (Decides-eqb i.number j.number)
+    (Decides-and _ _ (Decides-eqb i.descriptor_toi j.descriptor_toi)
+    (Decides-and _ _ (bytes_eq-Decides i.listed j.listed) (slice_eq-Decides file_decides i.files j.files _ refl))))
+
+chosen_number : (b : Bool) (old : Option Shown) (i : Shown) (number : ℕ) → Decides b (old ≡ Some i) → (Some i ≡ old → ⊥) → i.number ≡ number
+    → Some number ≡ (if b then None else Some i.number)
+chosen_number true old i number decides other is = absurd (other (sym (decides.0 refl)))
+chosen_number false old i number decides other is = ap Some (sym is)
+
+pub number_is : (n : Option ℕ) (old new : Option Shown) → Announces n old new → n ≡ other_number old new
+number_is None old None announces = refl
+number_is None old (Some i) announces = rw ((option_decides instance_decides old (Some i)).1 (sym announces)) refl
+number_is (Some number) old None announces = absurd announces.1
+number_is (Some number) old (Some i) announces =
+    chosen_number (option_eq same_instance old (Some i)) old i number (option_decides instance_decides old (Some i)) announces.0 announces.1
+
+-- ---- the events of a list, one datagram after another
+
+pub events_further : (tsi budget : ℕ) (held : Held) (ds es : List (List ℕ)) → events_from tsi budget held (ds ++ es)
+    ≡ events_from tsi budget held ds ++ events_from tsi budget (fold (step budget) held (packets_of tsi ds)) es
+events_further tsi budget held [] es = refl
+events_further tsi budget held (d ∷ ds) es =
+    ap (λ l. events_with tsi budget held d ++ l) (events_further tsi budget (held_with tsi budget held d) ds es)
+    ∙ ap (λ h. events_with tsi budget held d ++ (events_from tsi budget (held_with tsi budget held d) ds ++ events_from tsi budget h es))
+    (sym (held_more budget held (packet_under tsi d) (packets_of tsi ds)))
+    ∙ sym (append_assoc (events_with tsi budget held d) (events_from tsi budget (held_with tsi budget held d) ds)
+    (events_from tsi budget (fold (step budget) held (packets_of tsi (d ∷ ds))) es))
+
+-- of one datagram, from what taking it and settling answer
+pub events_are : (tsi budget : ℕ) (held : Held) (d : List ℕ) (t : Taken) (n : Option ℕ) (old new : Option Shown) → t ≡ taken_of tsi budget held d
+    → old ≡ best held → new ≡ best (held_with tsi budget held d) → Announces n old new → events_with tsi budget held d ≡ event_of t ∷ announcement n
+events_are tsi budget held d t n old new is before now announces =
+    ap (λ u. event_of u ∷ announcement (other_number (best held) (best (held_with tsi budget held d)))) (sym is)
+    ∙ ap (λ b. event_of t ∷ announcement (other_number b (best (held_with tsi budget held d)))) (sym before)
+    ∙ ap (λ b. event_of t ∷ announcement (other_number old b)) (sym now)
+    ∙ ap (λ m. event_of t ∷ announcement m) (sym (number_is n old new announces))

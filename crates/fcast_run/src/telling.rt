@@ -1,0 +1,41 @@
+//! How an event goes to a list of watchers.
+//!
+//! This is `tell_all` of `watch_list` once more: what is proved of a caller that lends a list of boxes to another crate
+//! would depend on whether that crate makes boxes of its own.
+
+ghost use Rattle.std.specs.Prelude.{◌≡◌, ℕ, ◌+◌, ◌≤◌, [], ◌∷◌, ◌++◌, IsTrue, not, vec_len};
+ghost use Rattle.edge_io.specs.Faults.{Rose};
+ghost use Rattle.watch_list.specs.Hearing.{Heard};
+
+use watch_list::{Event, Watch};
+
+/// Lets each watcher hear the event, in order. Those that do not hear it are dropped, the others keep
+/// their order. Answers how many were dropped, and takes no memory.
+pub fn tell_all(watchers: &mut Vec<Box<dyn Watch>>, event: &Event) -> usize
+    ensures heard { Heard (λ v. number v) (λ v. record_of v) (λ v. told v) (λ v. faults v) (λ v e n. refuses v e n)
+        (event.now ∷ []) watchers.old.items watchers.new.items }
+    ensures dropped { result + vec_len watchers.new ≡ vec_len watchers.old }
+{
+    let mut place: usize = 0;
+    let mut dropped: usize = 0;
+    while place < watchers.len() {
+        if tell_one(&mut watchers[place], event) {
+            place += 1;
+        } else {
+            let _lost = watchers.remove(place);
+            dropped += 1;
+        }
+    }
+    dropped
+}
+
+/// Says whether the watcher heard the event.
+fn tell_one(watcher: &mut Box<dyn Watch>, event: &Event) -> bool
+    ensures number { IsTrue result → number watcher.new ≡ number watcher.old + 1 }
+    ensures record { IsTrue result → told watcher.old → record_of watcher.new ≡ record_of watcher.old ++ event.now ∷ [] }
+    ensures told { told watcher.old → told watcher.new }
+    ensures refuses { IsTrue (not result) → refuses watcher.old event.now (faults watcher.new) }
+    ensures rose { IsTrue (not result) → Rose (faults watcher.old) (faults watcher.new) }
+{
+    watcher.hear(event).is_ok()
+}
