@@ -106,7 +106,7 @@ pub fn run<D: Datagrams, E: Emit, F: Files, S: Shelf, T: Text>(
     ensures shelf_left { receiving_of words.now ≡ None → edge.new.shelf ≡ edge.old.shelf }
     ensures emit { send_of words.now ≡ None → edge.new.emit ≡ edge.old.emit }
     ensures files { send_of words.now ≡ None → edge.new.files ≡ edge.old.files }
-    ensures watchers { watchers.new.items ≡ watchers.old.items }
+    ensures watchers { receiving_of words.now ≡ None → watchers.new.items ≡ watchers.old.items }
     // Where no device failed in this call, the status is the outcome's, or 9.
     ensures complete { (c : Settings) → receiving_of words.now ≡ Some c → D.told edge.old.datagrams
         → (Rose (D.faults edge.old.datagrams) (D.faults edge.new.datagrams) → ⊥)
