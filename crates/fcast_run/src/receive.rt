@@ -39,7 +39,9 @@ pub fn receive<D: Datagrams, S: Shelf, T: Text>(
     ensures blames { Blames result
         (Rose (D.faults datagrams.old) (D.faults datagrams.new)) (Rose (T.faults text.old) (T.faults text.new)) (Rose (S.faults shelf.old) (S.faults shelf.new)) }
     ensures events { D.told datagrams.old → TellsEvents result settings.now.tsi settings.now.budget settings.now.bound (D.left datagrams.old)
-        (λ events. Heard (λ v. number v) (λ v. record_of v) (λ v. (⟦<dyn Watch as Watch>⟧ v.vtable).told v.value) (λ v. (⟦<dyn Watch as Watch>⟧ v.vtable).faults v.value) (λ v e n. refuses v e n) events watchers.old.items watchers.new.items) }
+        (λ events. Heard (λ v. number v) (λ v. record_of v)
+        (λ v. (⟦<dyn Watch as Watch>⟧ v.vtable).told v.value) (λ v. (⟦<dyn Watch as Watch>⟧ v.vtable).faults v.value)
+        (λ v e n. refuses v e n) events watchers.old.items watchers.new.items) }
 {
     let gathered = gather(alloc, settings, datagrams, watchers)?;
     let receiver = &gathered.receiver;

@@ -47,7 +47,9 @@ pub fn gather<D: Datagrams>(
     ensures place { OnOk result (D.connected datagrams.new ≡ Some settings.now.place) }
     ensures blames { Blames result (Rose (D.faults datagrams.old) (D.faults datagrams.new)) ⊥ ⊥ }
     ensures events { D.told datagrams.old → TellsEvents result settings.now.tsi settings.now.budget settings.now.bound (D.left datagrams.old)
-        (λ events. Heard (λ v. number v) (λ v. record_of v) (λ v. (⟦<dyn Watch as Watch>⟧ v.vtable).told v.value) (λ v. (⟦<dyn Watch as Watch>⟧ v.vtable).faults v.value) (λ v e n. refuses v e n) events watchers.old.items watchers.new.items) }
+        (λ events. Heard (λ v. number v) (λ v. record_of v)
+        (λ v. (⟦<dyn Watch as Watch>⟧ v.vtable).told v.value) (λ v. (⟦<dyn Watch as Watch>⟧ v.vtable).faults v.value)
+        (λ v e n. refuses v e n) events watchers.old.items watchers.new.items) }
 {
     let mut buffer = zeros(alloc, BUFFER)?;
     let mut receiver = Receiver::start(alloc, settings.tsi, settings.budget)?;
@@ -83,7 +85,9 @@ fn take_all<D: Datagrams>(
     ensures blames { Blames result (Rose (D.faults datagrams.old) (D.faults datagrams.new)) ⊥ ⊥ }
     ensures grows { D.faults datagrams.old ≤ D.faults datagrams.new }
     ensures events { D.told datagrams.old → TellsEvents result receiver.old.tsi receiver.old.budget bound (D.left datagrams.old)
-        (λ events. Heard (λ v. number v) (λ v. record_of v) (λ v. (⟦<dyn Watch as Watch>⟧ v.vtable).told v.value) (λ v. (⟦<dyn Watch as Watch>⟧ v.vtable).faults v.value) (λ v e n. refuses v e n) events watchers.old.items watchers.new.items) }
+        (λ events. Heard (λ v. number v) (λ v. record_of v)
+        (λ v. (⟦<dyn Watch as Watch>⟧ v.vtable).told v.value) (λ v. (⟦<dyn Watch as Watch>⟧ v.vtable).faults v.value)
+        (λ v e n. refuses v e n) events watchers.old.items watchers.new.items) }
 {
     // Nobody asks how many row steps a run takes.
     let mut steps = Steps::start(());

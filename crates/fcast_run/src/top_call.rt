@@ -42,6 +42,9 @@ use watch_list::Watch;
 /// log or to `--addr` and `--port`. `drill` sends drawn files over a link that loses, repeats and reorders datagrams by
 /// the draws that follow from `--start`, has a receiver take them, and writes what came of it.
 ///
+/// While `replay` and `recv` take their datagrams the watchers hear of each what became of it, and the number of another
+/// instance where one is installed with it.
+///
 /// | status | meaning |
 /// |---|---|
 /// | 0 | the list was read to its end, an instance is installed, and no packet was over the budget; or it was dumped; or it was drilled and an instance is installed |
@@ -115,14 +118,19 @@ pub fn run<D: Datagrams, E: Emit, F: Files, S: Shelf, T: Text>(
         → (result ≡ (received c (D.left edge.old.datagrams) (D.torn edge.old.datagrams)).status) ⊎ (result ≡ 9) }
     // What the watchers heard: what became of each datagram, and each instance that was installed then.
     ensures events { (c : Settings) → receiving_of words.now ≡ Some c → D.told edge.old.datagrams → result ≢ 4 → result ≢ 9 →
-        Heard (λ v. number v) (λ v. record_of v) (λ v. (⟦<dyn Watch as Watch>⟧ v.vtable).told v.value) (λ v. (⟦<dyn Watch as Watch>⟧ v.vtable).faults v.value) (λ v e n. refuses v e n)
+        Heard (λ v. number v) (λ v. record_of v)
+        (λ v. (⟦<dyn Watch as Watch>⟧ v.vtable).told v.value) (λ v. (⟦<dyn Watch as Watch>⟧ v.vtable).faults v.value) (λ v e n. refuses v e n)
         (events_taken c (D.left edge.old.datagrams)) watchers.old.items watchers.new.items }
     ensures events_at_9 { (c : Settings) → receiving_of words.now ≡ Some c → D.told edge.old.datagrams → result ≡ 9 →
         HearsPart (events_taken c (D.left edge.old.datagrams))
-        (λ events. Heard (λ v. number v) (λ v. record_of v) (λ v. (⟦<dyn Watch as Watch>⟧ v.vtable).told v.value) (λ v. (⟦<dyn Watch as Watch>⟧ v.vtable).faults v.value) (λ v e n. refuses v e n) events watchers.old.items watchers.new.items) }
+        (λ events. Heard (λ v. number v) (λ v. record_of v)
+        (λ v. (⟦<dyn Watch as Watch>⟧ v.vtable).told v.value) (λ v. (⟦<dyn Watch as Watch>⟧ v.vtable).faults v.value)
+        (λ v e n. refuses v e n) events watchers.old.items watchers.new.items) }
     ensures events_at_4 { (c : Settings) → receiving_of words.now ≡ Some c → D.told edge.old.datagrams → result ≡ 4 →
         HearsFirst c.tsi c.budget (D.left edge.old.datagrams)
-        (λ events. Heard (λ v. number v) (λ v. record_of v) (λ v. (⟦<dyn Watch as Watch>⟧ v.vtable).told v.value) (λ v. (⟦<dyn Watch as Watch>⟧ v.vtable).faults v.value) (λ v e n. refuses v e n) events watchers.old.items watchers.new.items) }
+        (λ events. Heard (λ v. number v) (λ v. record_of v)
+        (λ v. (⟦<dyn Watch as Watch>⟧ v.vtable).told v.value) (λ v. (⟦<dyn Watch as Watch>⟧ v.vtable).faults v.value)
+        (λ v e n. refuses v e n) events watchers.old.items watchers.new.items) }
     // A dump: its status, what text gets, where the datagrams were connected and what is left of them.
     ensures dump_status { (most : ℕ) → dump_of words.now ≡ Some most → D.told edge.old.datagrams → IsDone result
         → result ≡ (dumped most (D.left edge.old.datagrams) (D.torn edge.old.datagrams)).status }

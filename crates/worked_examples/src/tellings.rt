@@ -86,7 +86,7 @@ fn each_class_is_told(rt: HostRuntime) -> Result<(), Fail> {
         &one,
         &other_symbol,
         &other_information,
-        &one[..7],
+        &one[..3],
     ];
     let heard = told(alloc, &["replay"], &datagrams, &[])?;
     let expected = [
