@@ -37,7 +37,8 @@ fn failing_devices_end_the_run(rt: HostRuntime) -> Result<(), Fail> {
     let failing = Failing { text: &[1], ..NONE };
     let ran = play(alloc, &["replay"], log.as_slice(), false, failing)?;
     assert!(rt; left(&ran) == (5, b"".as_slice(), Some(1)));
-    let ran = play(alloc, &["dump"], log.as_slice(), false, failing)?;
+    let words = ["drill", "--start", "0"];
+    let ran = play(alloc, &words, log.as_slice(), false, failing)?;
     assert!(rt; left(&ran) == (5, b"".as_slice(), None));
     Ok(())
 }

@@ -6,6 +6,8 @@ mod budgets;
 #[cfg(test)]
 mod drills;
 #[cfg(test)]
+mod dumps;
+#[cfg(test)]
 mod failures;
 #[cfg(test)]
 mod logs;
