@@ -1,6 +1,7 @@
 //! The program `fcast`: it makes the real forms of the outside and calls `run`.
 #![tactic(auto)]
 
+mod event_text;
 mod rate;
 mod tell;
 mod watchers;

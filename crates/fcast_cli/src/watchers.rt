@@ -1,6 +1,6 @@
 //! Those who listen to a run.
 
-use edge_io::WriterText;
+use crate::event_text::EventText;
 use std::alloc::Global;
 use std::io;
 use std::io::{Eprint, Write};
@@ -12,7 +12,7 @@ pub fn listeners<W: Write + Drop + 'static>(
     events: W,
 ) -> io::Result<Vec<Box<dyn Watch>>> {
     let mut watchers: Vec<Box<dyn Watch>> = Vec::new(alloc);
-    watchers.push(Box::new(alloc, Lines::new(WriterText::new(events)))?)?;
+    watchers.push(Box::new(alloc, Lines::new(EventText::new(events)))?)?;
     watchers.push(Box::new(alloc, Counter::new())?)?;
     Ok(watchers)
 }
