@@ -59,7 +59,6 @@ fn run_outside(rt: HostRuntime, rate: u64, words: &[Label]) -> io::Result<u8> {
     let input = BufReader::with_capacity(alloc, PIECE, rt.stdin())?;
     let log = BufWriter::with_capacity(alloc, PIECE, rt.stdout())?;
     let output = BufWriter::with_capacity(alloc, PIECE, rt.stdout())?;
-    let events = BufWriter::with_capacity(alloc, PIECE, rt.stderr())?;
     let mut edge = Edge {
         datagrams: PlacedDatagrams::new(ReaderBytes::new(input), rt),
         emit: PlacedEmit::new(alloc, WriterText::new(log), rt, rate),
@@ -67,7 +66,7 @@ fn run_outside(rt: HostRuntime, rate: u64, words: &[Label]) -> io::Result<u8> {
         shelf: FolderShelf::new(rt),
         text: WriterText::new(output),
     };
-    let mut watchers = listeners(alloc, events)?;
+    let mut watchers = listeners(rt, alloc)?;
     let mut heard = Vec::with_capacity(alloc, watchers.len())?;
     let status = run(alloc, words, &mut edge, &mut watchers);
     let status = ended(status, edge.emit.log.sink.finish());

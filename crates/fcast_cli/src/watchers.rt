@@ -3,16 +3,14 @@
 use crate::event_text::EventText;
 use std::alloc::Global;
 use std::io;
-use std::io::{Eprint, Write};
+use std::io::Eprint;
 use watch_list::{Counter, Lines, Watch};
 
-/// The watchers of a run: one that writes a line for each event, and one that counts them.
-pub fn listeners<W: Write + Drop + 'static>(
-    alloc: Global,
-    events: W,
-) -> io::Result<Vec<Box<dyn Watch>>> {
+/// The watchers of a run: one that writes a line for each event to standard error, and one that counts them.
+pub fn listeners(rt: HostRuntime, alloc: Global) -> io::Result<Vec<Box<dyn Watch>>> {
     let mut watchers: Vec<Box<dyn Watch>> = Vec::new(alloc);
-    watchers.push(Box::new(alloc, Lines::new(EventText::new(events)))?)?;
+    let events = EventText::new(rt, alloc)?;
+    watchers.push(Box::new(alloc, Lines::new(events))?)?;
     watchers.push(Box::new(alloc, Counter::new())?)?;
     Ok(watchers)
 }
