@@ -6,9 +6,10 @@ mod rate;
 mod tell;
 mod watchers;
 
+use crate::event_text::EventText;
 use crate::rate::{RateFault, asked_rate};
 use crate::tell::{tell, tell_first};
-use crate::watchers::{heard_by, listeners, tell_heard};
+use crate::watchers::{heard_by, tell_heard};
 use edge_io::{
     FolderFiles, FolderShelf, PlacedDatagrams, PlacedEmit, ReaderBytes, Text, Trouble, WriterText,
 };
@@ -18,6 +19,7 @@ use std::io::{BufReader, BufWriter, ErrorKind};
 use std::process::ExitCode;
 use std::rt::Env;
 use std::{env, io};
+use watch_list::{Counter, Lines, Watch};
 
 /// The status for a `FCAST_RATE` that is no number, as for a faulty command.
 const NO_COMMAND: u8 = 1;
@@ -66,7 +68,10 @@ fn run_outside(rt: HostRuntime, rate: u64, words: &[Label]) -> io::Result<u8> {
         shelf: FolderShelf::new(rt),
         text: WriterText::new(output),
     };
-    let mut watchers = listeners(rt, alloc)?;
+    // They are boxed here, since what boxes hide would be hidden in a function that gives them to its caller.
+    let mut watchers: Vec<Box<dyn Watch>> = Vec::new(alloc);
+    watchers.push(Box::new(alloc, Lines::new(EventText::new(rt, alloc)?))?)?;
+    watchers.push(Box::new(alloc, Counter::new())?)?;
     let mut heard = Vec::with_capacity(alloc, watchers.len())?;
     let status = run(alloc, words, &mut edge, &mut watchers);
     let status = ended(status, edge.emit.log.sink.finish());
