@@ -74,7 +74,7 @@ fn push_all(
 /// Whether so many datagrams were asked for and so many taken, at the place that the words name.
 fn took(edge: &MemEdge, asked: u64, taken: usize) -> bool {
     // One call more connects.
-    edge.datagrams.calls.made == asked + 1
+    edge.datagrams.calls.made == asked.saturating_add(1)
         && edge.datagrams.source.at == taken
         && edge.datagrams.source.connected == Some(PLACE)
 }

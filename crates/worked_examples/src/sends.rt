@@ -3,6 +3,7 @@ use crate::logs::{EMPTY_INSTANCE_DATAGRAM, log_of};
 use crate::objects::{HI_FILE, HI_FILE_REPAIR, LIST_ONE, LIST_ONE_REPAIR};
 use crate::packets::{Coding, packet};
 use crate::sending::{NONE, SendFailing, Sent, send, sent_log};
+use edge_io::Place;
 use std::alloc::{AllocError, Global};
 use std::test::Fail;
 
@@ -217,9 +218,33 @@ fn the_largest_file_and_one_more(rt: HostRuntime) -> Result<(), Fail> {
     let catalog: (&str, &[u8]) = ("c", b"instance\t1\nfile\tbig\ta\nfile\tnone\tb\n");
     let sent = send(alloc, &PLAIN, &[catalog, ("big", large.as_slice())], NONE)?;
     assert!(rt; is(&sent, 10, 0, "file too large: big\n"));
-    let most = ("big", &large.as_slice()[1..]);
-    let sent = send(alloc, &PLAIN, &[catalog, most], NONE)?;
+    let most = zeros(alloc, 16_777_216)?;
+    let sent = send(alloc, &PLAIN, &[catalog, ("big", most.as_slice())], NONE)?;
     assert!(rt; is(&sent, 10, 0, "no such file: none\n"));
+    Ok(())
+}
+
+/// The words that send a catalog to an address.
+const TO_AN_ADDRESS: [&str; 7] = [
+    "send",
+    "--catalog",
+    "c",
+    "--addr",
+    "127.0.0.1",
+    "--port",
+    "5000",
+];
+
+#[test]
+fn the_address_is_connected(rt: HostRuntime) -> Result<(), Fail> {
+    let alloc = rt.alloc();
+    let sent = send(alloc, &TO_AN_ADDRESS, &[ONE_FILE, HI], NONE)?;
+    let address = Place::Udp {
+        ip: [127, 0, 0, 1],
+        port: 5000,
+    };
+    assert_eq!(rt; sent.status, 0);
+    assert!(rt; sent.edge.emit.sink.connected == Some(address));
     Ok(())
 }
 
@@ -227,20 +252,10 @@ fn the_largest_file_and_one_more(rt: HostRuntime) -> Result<(), Fail> {
 fn other_words_of_send(rt: HostRuntime) -> Result<(), Fail> {
     let alloc = rt.alloc();
     let usage = "usage: replay, recv, send, dump, drill or listen\n";
-    let rows: [&[&str]; 4] = [
+    let rows: [&[&str]; 3] = [
         &["send"],
         &["send", "--catalog", "c", "--port", "5000"],
         &["send", "--catalog", "c", "--symbol", "7"],
-        // A place that this program doesn't send to yet.
-        &[
-            "send",
-            "--catalog",
-            "c",
-            "--addr",
-            "127.0.0.1",
-            "--port",
-            "5000",
-        ],
     ];
     for words in rows {
         let sent = send(alloc, words, &[ONE_FILE, HI], NONE)?;
