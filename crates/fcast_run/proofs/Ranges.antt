@@ -95,9 +95,10 @@ send_has ps =
     let b = number_or_fits 1 255 64 (given table.block.word ps) block (omega arith) (omega arith) is_block in
     let n = number_or_fits 1 255 128 (given table.maxn.word ps) maxn (omega arith) (omega arith) is_maxn in
     let c = number_or_fits 1 1000 1 (given table.cycles.word ps) cycles (omega arith) (omega arith) is_cycles in
-    let t = number_or_fits 0 4294967295 1 (given table.sent_tsi.word ps) tsi (omega arith) (omega arith) is_tsi in
-    (record { symbol_from = s.0; symbol_to = s.1; block_from = b.0; block_to = b.1; maxn_to = n.1; cycles_from = c.0; cycles_to = c.1; tsi_to = omega (arith, t.1) },
-    port_fits (given table.addr ps) (given table.port.word ps) place is_place))))))))
+    let t = number_or_fits 0 4294967295 1 (given table.sent_tsi.word ps) tsi (omega arith) (omega arith) is_tsi in (
+      record { symbol_from = s.0; symbol_to = s.1; block_from = b.0; block_to = b.1; maxn_to = n.1; cycles_from = c.0; cycles_to = c.1; tsi_to = omega (arith, t.1) },
+      port_fits (given table.addr ps) (given table.port.word ps) place is_place,
+    ))))))))
 
 listen_has : (ps : Pairs) → IfNumbers (command_with word.Listen ps)
 listen_has ps =
