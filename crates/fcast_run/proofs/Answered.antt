@@ -11,7 +11,7 @@ use Rattle.fcast_run.specs.declared.task.Task.{Task}
 use Rattle.fcast_run.specs.declared.task.Task.TheVariants as tasks
 use Rattle.fcast_run.specs.Commands.{receiving_in, dump_in, send_in, drill_in, receiving_of, dump_of, send_of, drill_of}
 use Rattle.fcast_run.specs.declared.fault.Fault.TheVariants.{Datagrams, Text, Shelf, Memory}
-use Rattle.fcast_run.specs.Endings.{is_base, is_apart, is_at_end, IsDone, WritesPart}
+use Rattle.fcast_run.specs.Endings.{is_base, is_apart, is_at_end, IsDone, AddsPart}
 use Rattle.fcast_run.specs.Inner.Answers.{status_of, status_of_answer, Blames, LeavesText, LeavesShelf}
 use Rattle.fcast_run.proofs.Installing.{part_all}
 
@@ -86,8 +86,8 @@ pub if_stopped : (answer : Result ℕ Fault) (result : ℕ) (P : Type 0) → End
 if_stopped (Ok s) result P ends stopped holds = absurd (stopped (subst IsDone (sym ends.is) ends.done))
 if_stopped (Err f) result P ends stopped holds = holds
 
-pub nothing_written : (report old new : List ℕ) → new ≡ old → WritesPart report old new
-nothing_written report old new is = record { written = 0; text = is ∙ sym (append-nil old) }
+pub nothing_added : {A : Type 0} (list old new : List A) → new ≡ old → AddsPart list old new
+nothing_added list old new is = record { added = 0; all = is ∙ sym (append-nil old) }
 
 pub stopped_at : (s : ℕ) → (s ≡ 5) ⊎ (s ≡ 9) → IsDone s → ⊥
 stopped_at s (inl e) done = done.text e

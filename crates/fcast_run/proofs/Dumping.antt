@@ -7,7 +7,7 @@ use Rattle.fcast_run.specs.declared.bound.Bound.TheVariants.{Most}
 use Rattle.fcast_run.specs.declared.ending.Ending.{Ending}
 use Rattle.fcast_run.specs.declared.fault.Fault.{Fault}
 use Rattle.fcast_run.specs.Dump.{dump_line, dump_lines, dump_status, dumped}
-use Rattle.fcast_run.specs.Endings.{WritesPart}
+use Rattle.fcast_run.specs.Endings.{AddsPart}
 use Rattle.fcast_run.specs.Outcome.{ending_of}
 use Rattle.fcast_run.specs.Texts.{ending_line}
 
@@ -36,12 +36,12 @@ written_more i left d old mid new few next before now =
 
 -- ---- what is written of a text is its first bytes
 
-pub front_written : (front rest old new : List ℕ) → new ≡ old ++ front → WritesPart (front ++ rest) old new
-front_written front rest old new is = record { written = length front; text = is ∙ ap (λ t. old ++ t) (sym (take-append_seam front rest)) }
+pub front_written : (front rest old new : List ℕ) → new ≡ old ++ front → AddsPart (front ++ rest) old new
+front_written front rest old new is = record { added = length front; all = is ∙ ap (λ t. old ++ t) (sym (take-append_seam front rest)) }
 
 -- the first of the lines
 pub lines_written : (i most : ℕ) (left : List (List ℕ)) (old new : List ℕ) → i ≤ most → new ≡ old ++ dump_lines 0 (take i left)
-    → WritesPart (dump_lines 0 (take most left)) old new
+    → AddsPart (dump_lines 0 (take most left)) old new
 lines_written i most left old new few is =
     let ds = take i (take most left) in
     let all : dump_lines 0 (take most left) ≡ dump_lines 0 ds ++ dump_lines (0 + length ds) (drop i (take most left)) =
@@ -50,12 +50,12 @@ lines_written i most left old new few is =
     (is ∙ ap (λ xs. old ++ dump_lines 0 xs) (sym (take-take i most left few))))
 
 -- a part of the front is a part of all
-pub part_of_front : (front rest old new : List ℕ) → WritesPart front old new → WritesPart (front ++ rest) old new
+pub part_of_front : (front rest old new : List ℕ) → AddsPart front old new → AddsPart (front ++ rest) old new
 part_of_front front rest old new part =
-    let first = take part.written front in
-    let all : front ++ rest ≡ first ++ (drop part.written front ++ rest) =
-    ap (λ t. t ++ rest) (sym (take-append-drop part.written front)) ∙ append_assoc first (drop part.written front) rest in
-    rw all (front_written first (drop part.written front ++ rest) old new part.text)
+    let first = take part.added front in
+    let all : front ++ rest ≡ first ++ (drop part.added front ++ rest) =
+    ap (λ t. t ++ rest) (sym (take-append-drop part.added front)) ∙ append_assoc first (drop part.added front) rest in
+    rw all (front_written first (drop part.added front ++ rest) old new part.all)
 
 -- ---- how a dump ends, from how its lines end
 
@@ -80,14 +80,14 @@ text_is (Err f) most left torn ending told old mid new is_told is lines line = t
 
 -- the lines alone, or a part of them
 pub lines_are_part : (r : Result ℕ Fault) (most : ℕ) (left : List (List ℕ)) (torn : Option ℕ) (told : Type 0) (old mid new : List ℕ)
-    → told → mid ≡ old ++ dump_lines 0 (take most left) → OnErr r (told → new ≡ mid) → OnErr r (WritesPart (dumped most left torn).text old new)
+    → told → mid ≡ old ++ dump_lines 0 (take most left) → OnErr r (told → new ≡ mid) → OnErr r (AddsPart (dumped most left torn).text old new)
 unfolding dumped
 lines_are_part (Ok s) most left torn told old mid new is_told lines same = tt
 lines_are_part (Err f) most left torn told old mid new is_told lines same =
     front_written (dump_lines 0 (take most left)) (ending_line (ending_of (Most most) left torn)) old new (same is_told ∙ lines)
 
 pub part_is_part : (most : ℕ) (left : List (List ℕ)) (torn : Option ℕ) (old new : List ℕ)
-    → WritesPart (dump_lines 0 (take most left)) old new → WritesPart (dumped most left torn).text old new
+    → AddsPart (dump_lines 0 (take most left)) old new → AddsPart (dumped most left torn).text old new
 unfolding dumped
 part_is_part most left torn old new part = part_of_front (dump_lines 0 (take most left)) (ending_line (ending_of (Most most) left torn)) old new part
 

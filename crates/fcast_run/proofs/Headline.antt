@@ -106,7 +106,7 @@ headline s c left torn result shelf shelf' text text' session datagrams at_end s
     let best = installed_after c.budget ps in
     let over = drops c.budget ps in
     let end = ends (ending_of c.bound left torn) over best result at_end status in
-    let o : received c left torn ≡ outcome_of c.place End over best = ap (λ e. outcome_of c.place e over best) end in
+    let o : received c left torn ≡ outcome_of End over best = ap (λ e. outcome_of e over best) end in
     record {
       best = best;
       greatest = subst (λ (objects : Objects). IsBestOf objects best)

@@ -11,7 +11,7 @@ use Rattle.sender_plan.specs.Session.{Session}
 use Rattle.sender_plan.specs.declared.params.Params.{Params}
 pub use Rattle.sender_plan.proofs.Public.{texts_within}
 use Rattle.sender_schedule.specs.Schedule.{schedule}
-use Rattle.fcast_run.specs.Endings.{SendsPart}
+use Rattle.fcast_run.specs.Endings.{AddsPart}
 use Rattle.fcast_run.specs.Send.{Found, and_then, bytes_under, catalog_in, checked, unless_any, within, bodies_of, session_of, asked, sent, refusal_status}
 use Rattle.fcast_run.specs.Inner.Sends.{Decides, Misses, Halts, Sends, HasSent, ComesTo, behind}
 use Rattle.fcast_run.specs.declared.sending.Sending.{Sending}
@@ -159,19 +159,16 @@ pub sends_all : (left list old new : List (List ℕ)) → HasSent left list old 
 sends_all left list old new has none =
     has.told ∙ ap (λ sent. old ++ sent) (sym (append-nil has.sent) ∙ ap (λ left. has.sent ++ left) (sym none) ∙ sym has.all)
 
-pub sends_part : (left list old mid new : List (List ℕ)) → HasSent left list old mid → new ≡ mid → SendsPart list old new
+pub sends_part : (left list old mid new : List (List ℕ)) → HasSent left list old mid → new ≡ mid → AddsPart list old new
 sends_part left list old mid new has same = record {
-  sent = length has.sent;
-  list = same ∙ has.told ∙ ap (λ ds. old ++ ds) (sym (ap (take (length has.sent)) has.all ∙ take-append_seam has.sent left));
+  added = length has.sent;
+  all = same ∙ has.told ∙ ap (λ ds. old ++ ds) (sym (ap (take (length has.sent)) has.all ∙ take-append_seam has.sent left));
 }
 
-pub no_part : (list old new : List (List ℕ)) → new ≡ old → SendsPart list old new
-no_part list old new same = record { sent = 0; list = same ∙ sym (append-nil old) }
-
-pub part_of_all : {A E : Type 0} (answer : Result A E) (list old new : List (List ℕ)) → Sends answer list old new → SendsPart list old new
+pub part_of_all : {A E : Type 0} (answer : Result A E) (list old new : List (List ℕ)) → Sends answer list old new → AddsPart list old new
 part_of_all (Ok a) list old new is = record {
-  sent = length list;
-  list = is ∙ ap (λ ds. old ++ ds) (sym (ap (take (length list)) (sym (append-nil list)) ∙ take-append_seam list []));
+  added = length list;
+  all = is ∙ ap (λ ds. old ++ ds) (sym (ap (take (length list)) (sym (append-nil list)) ∙ take-append_seam list []));
 }
 part_of_all (Err e) list old new part = part
 

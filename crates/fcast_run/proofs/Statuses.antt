@@ -68,13 +68,13 @@ none_over_of c left torn s is few = none_base (ending_of c.bound left torn)
 -- the outcome of a receiver that has taken the list is the list's
 pub outcome_is : (c : Settings) (left : List (List ℕ)) (torn : Option ℕ) (r : Receiver) (ending : Ending) (n : ℕ) (best : Option Shown)
     → r.tsi ≡ c.tsi → r.budget ≡ c.budget → HasTaken r (datagrams_taken c left) → ending ≡ ending_of c.bound left torn
-    → n ≡ r.drops → best ≡ r.installed → outcome_of c.place ending n best ≡ received c left torn
+    → n ≡ r.drops → best ≡ r.installed → outcome_of ending n best ≡ received c left torn
 unfolding received
 outcome_is c left torn r ending n best tsi budget has end count shown =
     let ps = packets_of c.tsi (datagrams_taken c left) in
     let dropped : n ≡ drops c.budget ps = count ∙ (has.drops ∙ (ap (λ t. drops r.budget (packets_of t (datagrams_taken c left))) tsi ∙ ap (λ b. drops b ps) budget)) in
     let installed : best ≡ installed_after c.budget ps = shown
     ∙ (has.installed ∙ (ap (λ t. installed_after r.budget (packets_of t (datagrams_taken c left))) tsi ∙ ap (λ b. installed_after b ps) budget)) in
-    ap (λ e. outcome_of c.place e n best) end
-    ∙ (ap (λ m. outcome_of c.place (ending_of c.bound left torn) m best) dropped
-    ∙ ap (outcome_of c.place (ending_of c.bound left torn) (drops c.budget ps)) installed)
+    ap (λ e. outcome_of e n best) end
+    ∙ (ap (λ m. outcome_of (ending_of c.bound left torn) m best) dropped
+    ∙ ap (outcome_of (ending_of c.bound left torn) (drops c.budget ps)) installed)

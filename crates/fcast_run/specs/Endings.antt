@@ -1,4 +1,4 @@
--- What text and shelf hold where a run stopped in the middle.
+-- What text, sink and shelf hold where a run stopped in the middle.
 use Rattle.std.specs.Prelude.{◌≡◌, ◌≢◌, ◌==◌, ℕ, ◌<◌, Bool, List, [], ◌∷◌, ◌++◌, length, take}
 use Rattle.std.specs.List.{list_any}
 use Rattle.edge_io.specs.Shelved.{Shelved}
@@ -42,10 +42,10 @@ pub record IsDone (status : ℕ) : Type 0 where
   pub shelf : status ≢ 6
   pub memory : status ≢ 9
 
--- a part of the report was written: the first bytes of it
-pub record WritesPart (report old new : List ℕ) : Type 0 where
-  pub written : ℕ
-  pub text : new ≡ old ++ take written report
+-- a part of the list was added at the end: the first of it
+pub record AddsPart {A : Type 0} (list old new : List A) : Type 0 where
+  pub added : ℕ
+  pub all : new ≡ old ++ take added list
 
 -- some of the calls were accepted: the first ones
 pub record AcceptsPart (calls : List Call) (old new : Shelved) : Type 0 where
@@ -63,8 +63,3 @@ pub record IsDecided (status : ℕ) : Type 0 where
   pub sink : status ≢ 5
   pub memory : status ≢ 9
   pub files : status ≢ 12
-
--- some of the datagrams were sent: the first ones
-pub record SendsPart (datagrams old new : List (List ℕ)) : Type 0 where
-  pub sent : ℕ
-  pub list : new ≡ old ++ take sent datagrams

@@ -1,8 +1,7 @@
--- The outcome of a list of datagrams that is taken: the status of the run, what `text` gets, the calls that the shelf
--- gets, and the place where the datagrams come from.
+-- The outcome of a list of datagrams that is taken: the status of the run, what `text` gets, and the calls that the shelf
+-- gets.
 use Rattle.std.specs.Prelude.{ℕ, ◌+◌, ◌==◌, nat_le, nat_lt, if◌then◌else◌, List, [], ◌∷◌, ◌++◌, length, take, map, Option, Some, None, is_some}
 use Rattle.edge_io.specs.ShelfCalls.{Call, Begin, Put, Finish}
-use Rattle.edge_io.specs.declared.place.Place.{Place}
 use Rattle.alc_packet.specs.Packet.{SymbolPacket}
 use Rattle.carousel_cid.specs.Instances.{Shown}
 use Rattle.carousel_cid.specs.declared.file_of.FileOf.{FileOf}
@@ -20,7 +19,6 @@ pub record Outcome : Type 0 where
   pub status : ℕ
   pub report : List ℕ
   pub calls : List Call
-  pub place : Place
 
 -- read to its end: 7 where a packet was over the budget, else by whether an instance is installed
 abbrev pub end_status : ℕ → Option Shown → ℕ
@@ -45,13 +43,12 @@ calls_of End installed = installing installed
 calls_of (Torn at) installed = []
 calls_of TooMany installed = []
 
--- of a list from this place: how its taking ended, how many packets were over the budget, and what is installed
-abbrev pub outcome_of : Place → Ending → ℕ → Option Shown → Outcome
-outcome_of place ending drops installed = record {
+-- of a list: how its taking ended, how many packets were over the budget, and what is installed
+abbrev pub outcome_of : Ending → ℕ → Option Shown → Outcome
+outcome_of ending drops installed = record {
   status = base_status ending drops installed;
   report = best_lines installed ++ (over_line drops ++ ending_line ending);
   calls = calls_of ending installed;
-  place = place;
 }
 
 abbrev pub ending_at : Option ℕ → Ending
@@ -85,4 +82,4 @@ packets_taken c left = packets_of c.tsi (datagrams_taken c left)
 -- of a receiver that takes of the datagrams that are left, where their log is torn there
 unfoldable pub received : Settings → List (List ℕ) → Option ℕ → Outcome
 received c left torn =
-    outcome_of c.place (ending_of c.bound left torn) (drops c.budget (packets_taken c left)) (installed_after c.budget (packets_taken c left))
+    outcome_of (ending_of c.bound left torn) (drops c.budget (packets_taken c left)) (installed_after c.budget (packets_taken c left))

@@ -12,7 +12,7 @@ use crate::report::{best_lines, report_of};
 use crate::shelve::install;
 use crate::tell::tell;
 use carousel_cid::Instance;
-use edge_io::{Place, Shelf, Text, Trouble};
+use edge_io::{Shelf, Text, Trouble};
 use std::alloc::Global;
 
 /// Installs the instance where the list was read to its end, writes the report, and answers the status. All memory is
@@ -27,7 +27,7 @@ pub fn conclude<S: Shelf, T: Text>(
 ) -> Result<u8, Fault>
     ensures status { IfOk result (λ s. s ≡ base_status ending drops (option_map (λ i. i.now) installed.entry)) }
     ensures text { T.told text.old →
-        LeavesText result (outcome_of Place.Log ending drops (option_map (λ i. i.now) installed.entry)).report (T.written text.old) (T.written text.new) }
+        LeavesText result (outcome_of ending drops (option_map (λ i. i.now) installed.entry)).report (T.written text.old) (T.written text.new) }
     ensures shelf { S.told shelf.old → LeavesShelf result (calls_of ending (option_map (λ i. i.now) installed.entry)) (S.holds shelf.old) (S.holds shelf.new) }
     ensures apart { is_apart (status_of_answer result) ≡ true → shelf.new ≡ shelf.old }
     ensures blames { Blames result ⊥ (Rose (T.faults text.old) (T.faults text.new)) (Rose (S.faults shelf.old) (S.faults shelf.new)) }

@@ -2,7 +2,7 @@
 ghost use Rattle.std.specs.Prelude.{◌≡◌, ◌≤◌, ◌+◌, ◌++◌, true, Some, IfOk, OnOk, OnErr, length, take, drop};
 ghost use Rattle.edge_io.specs.Faults.{Rose};
 ghost use Rattle.fcast_run.specs.Dump.{dump_status, dump_line, dump_lines, dumped};
-ghost use Rattle.fcast_run.specs.Endings.{WritesPart, is_base};
+ghost use Rattle.fcast_run.specs.Endings.{AddsPart, is_base};
 ghost use Rattle.fcast_run.specs.Outcome.{ending_of};
 ghost use Rattle.fcast_run.specs.declared.bound.Bound.TheVariants.{Most};
 ghost use Rattle.fcast_run.specs.Texts.{ending_line};
@@ -33,7 +33,7 @@ pub fn dump<D: Datagrams, T: Text>(
     ensures text { D.told datagrams.old → T.told text.old →
         OnOk result (T.written text.new ≡ T.written text.old ++ (dumped most (D.left datagrams.old) (D.torn datagrams.old)).text) }
     ensures part { D.told datagrams.old → T.told text.old →
-        OnErr result (WritesPart (dumped most (D.left datagrams.old) (D.torn datagrams.old)).text (T.written text.old) (T.written text.new)) }
+        OnErr result (AddsPart (dumped most (D.left datagrams.old) (D.torn datagrams.old)).text (T.written text.old) (T.written text.new)) }
     ensures left { D.told datagrams.old → OnOk result (D.left datagrams.new ≡ drop (most + 1) (D.left datagrams.old)) }
     ensures place { AfterTaking result (D.connected datagrams.new ≡ Some Place.Log) }
     ensures blames { Blames result (Rose (D.faults datagrams.old) (D.faults datagrams.new)) (Rose (T.faults text.old) (T.faults text.new)) ⊥ }
@@ -59,7 +59,7 @@ fn dump_all<D: Datagrams, T: Text>(
     ensures text { D.told datagrams.old → T.told text.old →
         OnOk result (T.written text.new ≡ T.written text.old ++ dump_lines 0 (take most (D.left datagrams.old))) }
     ensures part { D.told datagrams.old → T.told text.old →
-        OnErr result (WritesPart (dump_lines 0 (take most (D.left datagrams.old))) (T.written text.old) (T.written text.new)) }
+        OnErr result (AddsPart (dump_lines 0 (take most (D.left datagrams.old))) (T.written text.old) (T.written text.new)) }
     ensures told { T.told text.old → T.told text.new }
     ensures left { OnOk result (D.told datagrams.old → D.left datagrams.new ≡ drop (most + 1) (D.left datagrams.old)) }
     ensures place { D.connected datagrams.new ≡ D.connected datagrams.old }

@@ -1,7 +1,7 @@
 //! The command `send`.
 ghost use Rattle.std.specs.Prelude.{◌≡◌, ◌≢◌, ◌++◌, ◌⊎◌, true, Some, IfOk, IfErr, OnOk, string_bytes};
 ghost use Rattle.edge_io.specs.Faults.{Rose};
-ghost use Rattle.fcast_run.specs.Endings.{is_refused, is_send_status, is_unsent, IsDecided, SendsPart, WritesPart};
+ghost use Rattle.fcast_run.specs.Endings.{is_refused, is_send_status, is_unsent, IsDecided, AddsPart};
 ghost use Rattle.fcast_run.specs.Dump.{labelled};
 ghost use Rattle.fcast_run.specs.Send.{sent, refusal_line, refusal_status, refusal_text};
 ghost use Rattle.fcast_run.specs.Inner.Ranges.{AreParams};
@@ -17,7 +17,7 @@ use std::alloc::{AllocError, Global};
 
 /// Sends the session that is planned of the catalog and its files, or writes the line of what refuses it, and answers
 /// the status. Nothing is sent before everything that can refuse was looked at.
-#[tactic(auto, using(crate::proofs::Sends::missed_of, crate::proofs::Sends::no_part, crate::proofs::Sends::part_of_all))]
+#[tactic(auto, using(crate::proofs::Sends::missed_of, crate::proofs::Answered::nothing_added, crate::proofs::Sends::part_of_all))]
 pub fn send<E: Emit, F: Files, T: Text>(
     alloc: Global,
     sending: &Sending,
@@ -31,11 +31,11 @@ pub fn send<E: Emit, F: Files, T: Text>(
     ensures sent { F.told files.old → E.told emit.old → IsDecided result
         → E.sent emit.new ≡ E.sent emit.old ++ (sent (F.found files.old) sending.now).datagrams }
     ensures part { F.told files.old → E.told emit.old → (result ≡ 5) ⊎ (result ≡ 9)
-        → SendsPart (sent (F.found files.old) sending.now).datagrams (E.sent emit.old) (E.sent emit.new) }
+        → AddsPart (sent (F.found files.old) sending.now).datagrams (E.sent emit.old) (E.sent emit.new) }
     ensures text { F.told files.old → T.told text.old → IsDecided result
         → T.written text.new ≡ T.written text.old ++ (sent (F.found files.old) sending.now).line }
     ensures text_part { F.told files.old → T.told text.old → (result ≡ 5) ⊎ (result ≡ 9)
-        → WritesPart (sent (F.found files.old) sending.now).line (T.written text.old) (T.written text.new) }
+        → AddsPart (sent (F.found files.old) sending.now).line (T.written text.old) (T.written text.new) }
     ensures text_at_12 { T.told text.old → result ≡ 12 → T.written text.new ≡ T.written text.old }
     ensures alone { is_unsent result ≡ true → emit.new ≡ emit.old }
     ensures place { result ≡ 0 → E.connected emit.new ≡ Some sending.now.place }
@@ -58,7 +58,7 @@ pub fn send<E: Emit, F: Files, T: Text>(
 }
 
 /// Sends the session.
-#[tactic(auto, using(crate::proofs::Sends::is_refused, crate::proofs::Sends::is_sent, crate::proofs::Sends::halts_at_files, crate::proofs::Sends::no_part))]
+#[tactic(auto, using(crate::proofs::Sends::is_refused, crate::proofs::Sends::is_sent, crate::proofs::Sends::halts_at_files, crate::proofs::Answered::nothing_added))]
 fn send_files<E: Emit, F: Files>(
     alloc: Global,
     sending: &Sending,

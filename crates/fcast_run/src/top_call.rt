@@ -10,7 +10,7 @@ ghost use Rattle.fcast_run.specs.Outcome.{received, asked, datagrams_taken, pack
 ghost use Rattle.fcast_run.specs.Dump.{dumped};
 ghost use Rattle.fcast_run.specs.Send.{sent};
 ghost use Rattle.fcast_run.specs.Drill.{drilled};
-ghost use Rattle.fcast_run.specs.Endings.{is_status, is_apart, is_unsent, IsDone, IsDecided, WritesPart, SendsPart, AcceptsPart, AcceptsFewer};
+ghost use Rattle.fcast_run.specs.Endings.{is_status, is_apart, is_unsent, IsDone, IsDecided, AddsPart, AcceptsPart, AcceptsFewer};
 ghost use Rattle.fcast_run.specs.Events.{events_taken, HearsPart, HearsFirst};
 ghost use Rattle.watch_list.specs.Hearing.{Heard};
 ghost use Rattle.fcast_run.specs.Headline.{IsDatagramOf, InstallsBest};
@@ -47,14 +47,17 @@ use watch_list::Watch;
 ///
 /// | status | meaning |
 /// |---|---|
-/// | 0 | the list was read to its end, an instance is installed, and no packet was over the budget; or it was dumped; or it was drilled and an instance is installed |
+/// | 0 | the list was read to its end, an instance is installed, and no packet was over the budget; or it was dumped; or all was sent; or it was drilled and an instance is installed |
 /// | 1 | the words are no command |
 /// | 2 | the list was read to its end, nothing is installed, and no packet was over the budget; or it was drilled and nothing is installed |
 /// | 3 | the log is torn |
-/// | 4, 5, 6 | the datagrams, the text, the shelf failed |
+/// | 4, 5, 6 | the datagrams, the text or the sink, the shelf failed |
 /// | 7 | the list was read to its end, and at least one packet was over the budget |
+/// | 8 | the catalog has a bad line, or its session can't be planned: nothing was sent |
 /// | 9 | there was no memory |
+/// | 10 | a file isn't there, or has more than 16,777,216 bytes: nothing was sent |
 /// | 11 | as many datagrams were taken as may be, and one more came |
+/// | 12 | the files failed: nothing was sent |
 pub fn run<D: Datagrams, E: Emit, F: Files, S: Shelf, T: Text>(
     alloc: Global,
     words: &[Label],
@@ -88,11 +91,11 @@ pub fn run<D: Datagrams, E: Emit, F: Files, S: Shelf, T: Text>(
     ensures text_at_4 { (c : Settings) → receiving_of words.now ≡ Some c → T.told edge.old.text → result ≡ 4 → T.written edge.new.text ≡ T.written edge.old.text }
     ensures text_at_6 { T.told edge.old.text → result ≡ 6 → T.written edge.new.text ≡ T.written edge.old.text }
     ensures text_at_5 { (c : Settings) → receiving_of words.now ≡ Some c → D.told edge.old.datagrams → T.told edge.old.text → result ≡ 5 →
-        WritesPart (received c (D.left edge.old.datagrams) (D.torn edge.old.datagrams)).report (T.written edge.old.text) (T.written edge.new.text) }
+        AddsPart (received c (D.left edge.old.datagrams) (D.torn edge.old.datagrams)).report (T.written edge.old.text) (T.written edge.new.text) }
     ensures text_at_9 { (c : Settings) → receiving_of words.now ≡ Some c → D.told edge.old.datagrams → T.told edge.old.text → result ≡ 9 →
-        WritesPart (received c (D.left edge.old.datagrams) (D.torn edge.old.datagrams)).report (T.written edge.old.text) (T.written edge.new.text) }
+        AddsPart (received c (D.left edge.old.datagrams) (D.torn edge.old.datagrams)).report (T.written edge.old.text) (T.written edge.new.text) }
     ensures usage_part { is_command words.now ≡ false → T.told edge.old.text → (result ≡ 5) ⊎ (result ≡ 9) →
-        WritesPart usage_line (T.written edge.old.text) (T.written edge.new.text) }
+        AddsPart usage_line (T.written edge.old.text) (T.written edge.new.text) }
     // What the shelf gets.
     ensures shelf { (c : Settings) → receiving_of words.now ≡ Some c → D.told edge.old.datagrams → S.told edge.old.shelf → IsDone result ⊎ (result ≡ 5) →
         S.holds edge.new.shelf ≡ after (received c (D.left edge.old.datagrams) (D.torn edge.old.datagrams)).calls (S.holds edge.old.shelf) }
@@ -138,7 +141,7 @@ pub fn run<D: Datagrams, E: Emit, F: Files, S: Shelf, T: Text>(
         T.written edge.new.text ≡ T.written edge.old.text ++ (dumped most (D.left edge.old.datagrams) (D.torn edge.old.datagrams)).text }
     ensures dump_part { (most : ℕ) → dump_of words.now ≡ Some most → D.told edge.old.datagrams → T.told edge.old.text
         → (result ≡ 4) ⊎ (result ≡ 5) ⊎ (result ≡ 9) →
-        WritesPart (dumped most (D.left edge.old.datagrams) (D.torn edge.old.datagrams)).text (T.written edge.old.text) (T.written edge.new.text) }
+        AddsPart (dumped most (D.left edge.old.datagrams) (D.torn edge.old.datagrams)).text (T.written edge.old.text) (T.written edge.new.text) }
     ensures dump_left { (most : ℕ) → dump_of words.now ≡ Some most → D.told edge.old.datagrams → IsDone result →
         D.left edge.new.datagrams ≡ drop (most + 1) (D.left edge.old.datagrams) }
     ensures dump_place { (most : ℕ) → dump_of words.now ≡ Some most → result ≢ 4 → result ≢ 9 → D.connected edge.new.datagrams ≡ Some Place.Log }
@@ -152,11 +155,11 @@ pub fn run<D: Datagrams, E: Emit, F: Files, S: Shelf, T: Text>(
     ensures send_sent { (s : Sending) → send_of words.now ≡ Some s → F.told edge.old.files → E.told edge.old.emit → IsDecided result
         → E.sent edge.new.emit ≡ E.sent edge.old.emit ++ (sent (F.found edge.old.files) s).datagrams }
     ensures send_part { (s : Sending) → send_of words.now ≡ Some s → F.told edge.old.files → E.told edge.old.emit → (result ≡ 5) ⊎ (result ≡ 9)
-        → SendsPart (sent (F.found edge.old.files) s).datagrams (E.sent edge.old.emit) (E.sent edge.new.emit) }
+        → AddsPart (sent (F.found edge.old.files) s).datagrams (E.sent edge.old.emit) (E.sent edge.new.emit) }
     ensures send_text { (s : Sending) → send_of words.now ≡ Some s → F.told edge.old.files → T.told edge.old.text → IsDecided result
         → T.written edge.new.text ≡ T.written edge.old.text ++ (sent (F.found edge.old.files) s).line }
     ensures send_text_part { (s : Sending) → send_of words.now ≡ Some s → F.told edge.old.files → T.told edge.old.text → (result ≡ 5) ⊎ (result ≡ 9)
-        → WritesPart (sent (F.found edge.old.files) s).line (T.written edge.old.text) (T.written edge.new.text) }
+        → AddsPart (sent (F.found edge.old.files) s).line (T.written edge.old.text) (T.written edge.new.text) }
     ensures send_text_at_12 { T.told edge.old.text → result ≡ 12 → T.written edge.new.text ≡ T.written edge.old.text }
     ensures emit_alone { is_unsent result ≡ true → edge.new.emit ≡ edge.old.emit }
     ensures send_place { (s : Sending) → send_of words.now ≡ Some s → result ≡ 0 → E.connected edge.new.emit ≡ Some s.place }
@@ -174,7 +177,7 @@ pub fn run<D: Datagrams, E: Emit, F: Files, S: Shelf, T: Text>(
     ensures drill_text { (start : ℕ) → drill_of words.now ≡ Some start → T.told edge.old.text → result ≢ 5 → result ≢ 9 →
         T.written edge.new.text ≡ T.written edge.old.text ++ (drilled start).text }
     ensures drill_part { (start : ℕ) → drill_of words.now ≡ Some start → T.told edge.old.text → (result ≡ 5) ⊎ (result ≡ 9) →
-        WritesPart (drilled start).text (T.written edge.old.text) (T.written edge.new.text) }
+        AddsPart (drilled start).text (T.written edge.old.text) (T.written edge.new.text) }
     ensures drill_complete { (start : ℕ) → drill_of words.now ≡ Some start → (Rose (T.faults edge.old.text) (T.faults edge.new.text) → ⊥)
         → (result ≡ (drilled start).status) ⊎ (result ≡ 9) }
 {

@@ -10,7 +10,7 @@ use sender_schedule::Schedule;
 use std::alloc::Global;
 
 /// Connects the sink to the place, and sends all datagrams of the session.
-#[tactic(auto, using(crate::proofs::Sends::no_part))]
+#[tactic(auto, using(crate::proofs::Answered::nothing_added))]
 pub fn transmit<E: Emit>(
     alloc: Global,
     place: &Place,

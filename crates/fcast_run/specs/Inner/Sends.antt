@@ -1,10 +1,9 @@
 -- How the stages of a send end, by cases on their answer.
 use Rattle.std.specs.Prelude.{◌≡◌, ℕ, List, [], ◌++◌, Result, Ok, Err}
 use Rattle.sender_plan.specs.declared.fault.PlanFault.{PlanFault}
-use Rattle.sender_plan.specs.declared.fault.PlanFault.TheVariants.{NumberNotRising, TooManyFiles, TooLarge, Params}
 use Rattle.sender_plan.specs.declared.fault.PlanFault.TheVariants as plans
-use Rattle.fcast_run.specs.Endings.{SendsPart}
-use Rattle.fcast_run.specs.Send.{Sent, refusal_status, refusal_line}
+use Rattle.fcast_run.specs.Endings.{AddsPart}
+use Rattle.fcast_run.specs.Send.{Sent, refusal_of, refusal_status, refusal_line}
 use Rattle.fcast_run.specs.declared.sending.Refusal.{Refusal}
 use Rattle.fcast_run.specs.declared.sending.Refusal.TheVariants.{Line, Plan, Absent, TooBig}
 use Rattle.fcast_run.specs.declared.sending.Stop.{Stop}
@@ -39,7 +38,7 @@ Halts (Err stop) emit files missed = HaltsAt stop emit files missed
 -- what the sink gets of these datagrams
 abbrev pub Sends : {A E : Type 0} → Result A E → List (List ℕ) → List (List ℕ) → List (List ℕ) → Type 0
 Sends (Ok a) datagrams old new = new ≡ old ++ datagrams
-Sends (Err e) datagrams old new = SendsPart datagrams old new
+Sends (Err e) datagrams old new = AddsPart datagrams old new
 
 -- these are the datagrams that were sent of a list, and those that are left of it
 pub record HasSent (left list old new : List (List ℕ)) : Type 0 where
@@ -69,8 +68,5 @@ behind bodies (Err refusal) = Err refusal
 
 -- what stops where this fault of a plan holds
 abbrev pub fault_stop : PlanFault → Stop
-fault_stop (NumberNotRising at) = Refused (Plan 1 at)
-fault_stop (TooManyFiles at) = Refused (Plan 2 at)
-fault_stop (TooLarge total) = Refused (Plan 3 total)
-fault_stop Params = Refused (Plan 4 0)
 fault_stop plans.Memory = Memory
+fault_stop fault = Refused (refusal_of fault)

@@ -1,6 +1,6 @@
 use Rattle.std.proofs.Common.{◌++◌, ◌∙◌, ap, subst, take}
 use Rattle.fcast_run.specs.Dump.{dump_lines}
-use Rattle.fcast_run.specs.Endings.{WritesPart}
+use Rattle.fcast_run.specs.Endings.{AddsPart}
 use Rattle.fcast_run.proofs.Dumping.{ended, status_is, text_is, lines_are_part, part_is_part, on_error}
 use Rattle.fcast_run.proofs.dump.dump.Goals as goal
 
@@ -9,7 +9,7 @@ returns-in_err-ending-clause-part g c = λ told text.
     let D = g.D.Datagrams in
     let connected = c.in-Ok.ensures in
     on_error c.from_residual-in_err-ending.result _ (part_is_part c.args.most (D.left c.args.datagrams.now) (D.torn c.args.datagrams.now) _ _
-    (subst (λ l. WritesPart (dump_lines 0 (take c.args.most l)) (g.T.Text.written c.args.text.now) (g.T.Text.written c.dump_all.new.text))
+    (subst (λ l. AddsPart (dump_lines 0 (take c.args.most l)) (g.T.Text.written c.args.text.now) (g.T.Text.written c.dump_all.new.text))
     (connected.left told) (c.in_err-ending.ensures.part (connected.told told) text)))
 
 pub returns-clause-status : goal.returns-clause-status

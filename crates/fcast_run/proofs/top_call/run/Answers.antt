@@ -1,7 +1,7 @@
 use Rattle.std.proofs.Common.{◌≡◌, inr}
 use Rattle.fcast_run.specs.Endings.{IsDone}
 use Rattle.fcast_run.proofs.Answered.{ends_of, for_value, receiving_is, dump_is, send_is, drill_is, done_at_end, if_done, text_if_done, shelf_if_done, if_stopped, stopped_at}
-use Rattle.fcast_run.proofs.Answered.{text_if_stopped, nothing_written, complete}
+use Rattle.fcast_run.proofs.Answered.{text_if_stopped, nothing_added, complete}
 use Rattle.fcast_run.proofs.Headline.{headline, at_end_of, at_end_of_few}
 use Rattle.fcast_run.proofs.Statuses.{over_of, none_over_of}
 use Rattle.fcast_run.proofs.Told.{all_told, told_at_9, told_at_4, no_event_heard}
@@ -41,7 +41,7 @@ returns-in-Receive-clause-none_over g c =
 pub returns-in-Receive-clause-text_at_5 : goal.returns-in-Receive-clause-text_at_5
 returns-in-Receive-clause-text_at_5 g c = λ settings words told written five.
     let ends = ends_of c.receive-done.result c.status_of-in-Receive.result c.status_of-in-Receive.ensures c.receive-done.ensures.base in
-    nothing_written _ _ _ (if_stopped c.receive-done.result c.status_of-in-Receive.result _
+    nothing_added _ _ _ (if_stopped c.receive-done.result c.status_of-in-Receive.result _
     ends (λ (is : IsDone c.status_of-in-Receive.result). is.text five) (c.receive-done.ensures.unwritten written))
 
 pub returns-in-Receive-clause-complete : goal.returns-in-Receive-clause-complete
@@ -78,7 +78,7 @@ returns-in-Drill-clause-drill_part g c =
     let done = c.drill-done.ensures in
     let ends = ends_of c.drill-done.result c.status_of-in-Drill.result c.status_of-in-Drill.ensures done.base in
     λ start words written stopped.
-    nothing_written _ _ _ (if_stopped c.drill-done.result c.status_of-in-Drill.result _ ends
+    nothing_added _ _ _ (if_stopped c.drill-done.result c.status_of-in-Drill.result _ ends
     (stopped_at c.status_of-in-Drill.result stopped) (text_if_stopped c.drill-done.result _ _ _ (done.text written)))
 
 pub returns-in-Drill-clause-drill_complete : goal.returns-in-Drill-clause-drill_complete
@@ -115,7 +115,7 @@ returns-in-Receive-clause-events_at_4 g c =
 pub returns-in-Receive-clause-text_at_9 : goal.returns-in-Receive-clause-text_at_9
 returns-in-Receive-clause-text_at_9 g c = λ settings words told written nine.
     let ends = ends_of c.receive-done.result c.status_of-in-Receive.result c.status_of-in-Receive.ensures c.receive-done.ensures.base in
-    nothing_written _ _ _ (if_stopped c.receive-done.result c.status_of-in-Receive.result _
+    nothing_added _ _ _ (if_stopped c.receive-done.result c.status_of-in-Receive.result _
     ends (λ (is : IsDone c.status_of-in-Receive.result). is.memory nine) (c.receive-done.ensures.unwritten written))
 
 pub returns-in_default-clause-events_at_9 : goal.returns-in_default-clause-events_at_9
