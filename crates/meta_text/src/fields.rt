@@ -91,7 +91,8 @@ impl Fields {
     ///
     /// The text is cut at each LF, and one CR at a line's end is left out. Empty lines are passed over and
     /// counted. Every other line is a name, a colon and a value; spaces and tabs at the value's ends are
-    /// left out. Memory is taken once no line is faulty: at most the text's length, and 24 bytes a pair.
+    /// left out. Memory is taken once no line is faulty: at most the text's length, and 12 bytes a pair. There is none for
+    /// names and values of 4 GiB.
     pub fn read(alloc: Global, bytes: &[u8]) -> Result<Fields, FieldFault>
         ensures reading { Gives result (readings.reading bytes.now) }
         ensures memory { IfErr result (λ e. e ≡ FieldFault.Memory → IsOk (readings.reading bytes.now)) }
@@ -138,7 +139,7 @@ fn name(text: &[u8], place: Place) -> &str
     requires { IsPlace text.now place }
     ensures { result.now ≡ name_at text.now place }
 {
-    as_text(&text[place.start..place.middle])
+    as_text(&text[place.start as usize..place.middle as usize])
 }
 
 /// The value at a place.
@@ -146,7 +147,7 @@ fn value(text: &[u8], place: Place) -> &str
     requires { IsPlace text.now place }
     ensures { result.now ≡ value_at text.now place }
 {
-    as_text(&text[place.middle..place.end])
+    as_text(&text[place.middle as usize..place.end as usize])
 }
 
 /// Bytes that are UTF-8, as text.
@@ -188,15 +189,22 @@ fn push_text(text: &mut Vec<u8>, name: &str, value: &str) -> Result<Place, Alloc
     }) }
     ensures err { OnErr result (Extends text.old.items text.new.items) }
 {
-    let start = text.len();
+    let start = offset(text.len())?;
     text.extend_from_slice(name.as_bytes())?;
-    let middle = text.len();
+    let middle = offset(text.len())?;
     text.extend_from_slice(value.as_bytes())?;
-    Ok(Place {
-        start,
-        middle,
-        end: text.len(),
-    })
+    let end = offset(text.len())?;
+    Ok(Place { start, middle, end })
+}
+
+/// A place in the text as it is kept. There is no room for a text of 4 GiB.
+fn offset(at: usize) -> Result<u32, AllocError>
+    ensures { IfOk result (λ offset. offset ≡ at) }
+{
+    match u32::try_from(at) {
+        Ok(offset) => Ok(offset),
+        Err(_) => Err(AllocError),
+    }
 }
 
 fn find<'a>(text: &'a [u8], places: &[Place], name: &str) -> Field<'a>
@@ -240,9 +248,9 @@ fn push_line(out: &mut Vec<u8>, text: &[u8], place: Place) -> Result<(), AllocEr
     requires { IsPlace text.now place }
     ensures { OnOk result (out.new.items ≡ out.old.items ++ line_of (pair_at text.now place)) }
 {
-    out.extend_from_slice(&text[place.start..place.middle])?;
+    out.extend_from_slice(name(text, place).as_bytes())?;
     out.extend_from_slice(b": ")?;
-    out.extend_from_slice(&text[place.middle..place.end])?;
+    out.extend_from_slice(value(text, place).as_bytes())?;
     out.extend_from_slice(b"\r\n")?;
     Ok(())
 }
@@ -263,8 +271,8 @@ fn with_line(len: usize, text: &[u8], place: Place) -> usize
     requires { IsPlace text.now place }
     ensures { result ≡ min (len + length (line_of (pair_at text.now place))) (2 ^ 64 - 1) }
 {
-    let name = text[place.start..place.middle].len();
-    let value = text[place.middle..place.end].len();
+    let name = name(text, place).len();
+    let value = value(text, place).len();
     len.saturating_add(name)
         .saturating_add(value)
         .saturating_add(4)
