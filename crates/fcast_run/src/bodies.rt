@@ -8,11 +8,9 @@ use crate::sending::{Refusal, Stop};
 use compound_object::Blob;
 use edge_io::{FileFault, Files};
 use meta_text::Label;
+use sender_plan::MOST_BYTES;
 use std::alloc::{AllocError, Global};
 use std::marker::Model;
-
-/// How many bytes all bodies may have together.
-const MOST_BYTES: u64 = 268_435_456;
 
 /// Bodies of files, each of at most 16,777,216 bytes.
 #[derive(Drop)]

@@ -17,7 +17,7 @@ mod session;
 pub use catalog::{Catalog, CatalogInstance, CatalogItem};
 pub use fault::{CatalogFault, PlanFault};
 pub use params::{Params, check};
-pub use planning::plan;
+pub use planning::{MOST_BYTES, plan};
 pub use reading::read_catalog;
 pub use session::{SentInstance, SentObject, Session};
 

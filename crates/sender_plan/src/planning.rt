@@ -28,8 +28,8 @@ use compound_object::Blob;
 use indexmap::{IndexMap, IndexSet};
 use std::alloc::{AllocError, Global};
 
-/// How many bytes all bodies may have together.
-const MOST_BYTES: u64 = 268_435_456;
+/// How many bytes the bodies of a catalog's files may have together.
+pub const MOST_BYTES: u64 = 268_435_456;
 
 /// The session of a catalog, whose files have these bodies, in the order of its names.
 ///
@@ -59,7 +59,7 @@ pub fn plan(
 }
 
 /// Refuses what can't be planned. It takes no memory.
-fn refuse(catalog: &Catalog, bodies: &[Blob], params: &Params) -> Result<(), PlanFault>
+pub(crate) fn refuse(catalog: &Catalog, bodies: &[Blob], params: &Params) -> Result<(), PlanFault>
     requires many { length bodies.now ≡ length (names_of catalog.now) }
     requires short { All (λ body. length body ≤ 16777216) bodies.now }
     ensures ok { OnOk result (first_fault (plan_faults catalog.now bodies.now params.now) ≡ None) }

@@ -165,6 +165,44 @@ fn a_symbol_too_many_is_spare(rt: HostRuntime) -> Result<(), Fail> {
     Ok(())
 }
 
+// Three symbols of 1,000 bytes are within the budget, with 256 for their object and 64 for their block.
+#[test]
+fn a_packet_over_the_budget_is_told(rt: HostRuntime) -> Result<(), Fail> {
+    let alloc = rt.alloc();
+    let coding = Coding {
+        toi: 1,
+        length: 8_000,
+        symbol: 1_000,
+        max_block: 8,
+        max_n: 8,
+    };
+    let zeros = [0u8; 1_000];
+    let mut packets = Vec::new(alloc);
+    for esi in 0..4u8 {
+        packets.push(packet(alloc, coding, esi, &zeros)?)?;
+    }
+    let mut datagrams: Vec<&[u8]> = Vec::new(alloc);
+    for one in packets.as_slice() {
+        datagrams.push(one.as_slice())?;
+    }
+    let words = ["replay", "--budget", "4096"];
+    let heard = told(alloc, &words, datagrams.as_slice(), &[])?;
+    let expected = [
+        new(1, 0, false, false),
+        new(1, 1, false, false),
+        new(1, 2, false, false),
+        Event::OverBudget {
+            toi: 1,
+            sbn: 0,
+            esi: 3,
+            count: 3_320,
+            charge: 1_000,
+        },
+    ];
+    assert!(rt; heard.events.as_slice() == expected.as_slice());
+    Ok(())
+}
+
 #[test]
 fn a_deaf_watcher_is_dropped(rt: HostRuntime) -> Result<(), Fail> {
     let alloc = rt.alloc();
