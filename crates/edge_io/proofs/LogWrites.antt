@@ -1,8 +1,8 @@
 -- A log that is being written: what each write adds.
-use Rattle.std.proofs.Common.{◌≡◌, ℕ, ◌<◌, ◌≤◌, ◌^◌, Bool, true, false, List, [], ◌∷◌, ◌++◌, flat_map, length, All, refl, sym, ◌∙◌, ap, subst, arith, append_assoc}
+use Rattle.std.proofs.Common.{◌≡◌, ℕ, ◌<◌, ◌≤◌, ◌^◌, Bool, true, false, List, [], ◌∷◌, ◌++◌, flat_map, length, All, sym, ◌∙◌, ap, subst, arith, append_assoc}
 use Rattle.std.proofs.lemmas.Grind.{flat_map-append}
 use Rattle.std.proofs.lemmas.List.{append-nil}
-use Rattle.edge_io.specs.Log.{magic, item, log, AreShort, IsLog, datagrams_of}
+use Rattle.edge_io.specs.Log.{magic, item, AreShort, IsLog, datagrams_of}
 use Rattle.edge_io.specs.LogWriting.{magic_due, IsInOrder, sent_on}
 use Rattle.edge_io.proofs.LogLaws.{log_datagrams}
 use Rattle.edge_io.proofs.Texts.{datagrams_short, at_most}

@@ -1,5 +1,5 @@
 -- Which of two places is connected.
-use Rattle.std.specs.Prelude.{ℕ, List, Option, Some, None}
+use Rattle.std.specs.Prelude.{Option, Some, None}
 use Rattle.edge_io.specs.declared.place.Place.{Place}
 use Rattle.edge_io.specs.declared.place.Place.TheVariants.{Log, Udp}
 

@@ -1,5 +1,5 @@
 -- What a text of metadata fields says, or the fault of its first faulty line.
-use Rattle.std.specs.Prelude.{◌≡◌, ℕ, not, List, [], ◌∷◌, Option, Some, None, Result, Ok, Err}
+use Rattle.std.specs.Prelude.{◌≡◌, ℕ, not, List, [], ◌∷◌, Option, None, Result, Ok, Err}
 use Rattle.std.specs.List.{list_any}
 use Rattle.std.specs.Option.{option_or}
 use Rattle.wire_bytes.specs.FirstFault.{fault_when, first_fault, unless_fault}

@@ -1,7 +1,6 @@
 -- What is installed after lists of packets: agreement, and that no number falls.
-use Rattle.std.proofs.Common.{◌≡◌, ◌≤◌, ◌++◌, ℕ, List, Option, subst, All}
+use Rattle.std.proofs.Common.{◌≡◌, ◌≤◌, ◌++◌, ℕ, List, subst, All}
 use Rattle.alc_packet.specs.Packet.{SymbolPacket, IsPacket}
-use Rattle.carousel_cid.specs.Instances.{Shown}
 use Rattle.object_store.specs.Held.{Held}
 use Rattle.object_store.specs.Verdict.{held_after}
 use Rattle.object_store.specs.Whole.{whole}

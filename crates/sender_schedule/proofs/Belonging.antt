@@ -1,21 +1,20 @@
 -- Each datagram of the schedule spells a packet of the session.
-use Rattle.std.proofs.Common.{◌≡◌, ℕ, ◌+◌, ◌-◌, ◌<◌, ◌≤◌, List, Some, None, length, get_or, refl, sym, ap, ◌∙◌, subst, arith, inl, inr}
-use Rattle.std.specs.Prelude.{All, map, slice_get}
+use Rattle.std.proofs.Common.{◌≡◌, ℕ, ◌-◌, Some, get_or, refl, sym, subst, arith, inl, inr}
+use Rattle.std.specs.Prelude.{All}
 use Rattle.std.specs.List.{flat_map}
 use Rattle.std.proofs.lemmas.Option.{slice_get_cases}
 use Rattle.std.proofs.lemmas.List.Elements.{All-map}
 use Rattle.wire_bytes.proofs.Public.{filled_whole}
 use Rattle.oti_blocks.specs.Sent.{Sent, block_rows}
-use Rattle.rs_code.specs.SourceRows.{IsSymbolRow, column}
-use Rattle.alc_packet.specs.Packet.{SymbolPacket, full}
-use Rattle.alc_packet.specs.Datagram.{Spells}
+use Rattle.rs_code.specs.SourceRows.{IsSymbolRow}
+use Rattle.alc_packet.specs.Packet.{full}
 use Rattle.alc_packet.proofs.Public.{written_spells}
 use Rattle.sender_plan.specs.Session.{Session, SentObject, HasObject, IsSession, objects_of, object_of}
 use Rattle.sender_schedule.specs.Places.{IsPlace, places}
 use Rattle.sender_schedule.specs.SymbolRow.{symbol_row}
 use Rattle.sender_schedule.specs.Datagram.{sent_of, packet, datagram}
 use Rattle.sender_schedule.specs.Schedule.{all_cycles, datagrams_of, object_datagrams, schedule}
-use Rattle.sender_schedule.specs.Belonging.{IsSentOf, Belongs}
+use Rattle.sender_schedule.specs.Belonging.{Belongs}
 use Rattle.sender_schedule.specs.Inner.Sending.{CanBeSent}
 use Rattle.sender_schedule.specs.declared.place.Place.{Place}
 use Rattle.sender_schedule.proofs.Objects.{All-flat_map, all_known, can_be_sent, schedule_by_objects}

@@ -1,11 +1,11 @@
 -- The objects of a session that are sent.
-use Rattle.std.proofs.Common.{◌≡◌, ℕ, zero, suc, ◌-◌, List, [], ◌∷◌, ◌++◌, Some, map, refl, sym, ap, ◌∙◌, arith, subst}
-use Rattle.std.specs.Prelude.{All, replicate, slice_get}
+use Rattle.std.proofs.Common.{◌≡◌, ℕ, zero, suc, ◌-◌, List, [], ◌∷◌, ◌++◌, Some, refl, ap, ◌∙◌, arith}
+use Rattle.std.specs.Prelude.{All, replicate}
 use Rattle.std.specs.List.{flat_map}
 use Rattle.std.proofs.lemmas.Grind.{flat_map-append}
 use Rattle.std.proofs.lemmas.List.Elements.{All-append, All-nil}
-use Rattle.sender_plan.specs.Session.{Session, SentObject, SentInstance, HasObject, IsObject, IsInstance, IsSession, objects_of, object_of}
-use Rattle.sender_schedule.specs.Schedule.{all_cycles, object_datagrams, cycle_datagrams, schedule}
+use Rattle.sender_plan.specs.Session.{Session, SentObject, HasObject, IsSession, objects_of, object_of}
+use Rattle.sender_schedule.specs.Schedule.{all_cycles, object_datagrams, schedule}
 use Rattle.sender_schedule.specs.Inner.Sending.{CanBeSent}
 
 -- the lists of a list of lists of lists, either way

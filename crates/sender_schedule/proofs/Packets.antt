@@ -1,6 +1,5 @@
 -- The packets that are sent are packets, and what they are written as.
-use Rattle.std.proofs.Common.{◌≡◌, ℕ, ◌+◌, ◌-◌, ◌*◌, ◌/◌, ◌^◌, ◌<◌, ◌≤◌, List, length, get_or, drop, refl, sym, ap, ◌∙◌, subst, arith, inl, get_or-drop}
-use Rattle.std.specs.Prelude.{All}
+use Rattle.std.proofs.Common.{◌≡◌, ℕ, ◌+◌, ◌-◌, ◌*◌, ◌/◌, ◌^◌, ◌<◌, ◌≤◌, List, length, get_or, drop, ap, ◌∙◌, arith, inl, get_or-drop}
 use Rattle.std.proofs.lemmas.List.{get_or_past, get_or_default, length-append, length-drop}
 use Rattle.byteorder.specs.Numbers.{length-bytes_high_first}
 use Rattle.oti_blocks.specs.Partition.{ObjectInformation, IsSound, sources, blocks, size_at, start_at, last_length}
@@ -16,7 +15,7 @@ use Rattle.alc_packet.specs.Writing.{header_of}
 use Rattle.alc_packet.proofs.Public.{header_suits}
 use Rattle.sender_plan.specs.Session.{SentObject}
 use Rattle.sender_schedule.specs.Places.{IsPlace}
-use Rattle.sender_schedule.specs.SymbolRow.{symbol_in, symbol_row}
+use Rattle.sender_schedule.specs.SymbolRow.{symbol_row}
 use Rattle.sender_schedule.specs.Datagram.{sent_of, packet, datagram}
 use Rattle.sender_schedule.specs.Inner.Sending.{CanBeSent}
 use Rattle.sender_schedule.specs.declared.place.Place.{Place}

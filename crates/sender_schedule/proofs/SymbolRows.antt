@@ -5,10 +5,9 @@ use Rattle.std.proofs.lemmas.List.{length-map}
 use Rattle.std.proofs.lemmas.List.FromFn.{fill_by_all, length-range_with_len, get_or-range_with_len, length-map-range_with_len, get_or-map-range_with_len}
 use Rattle.wire_bytes.specs.Bytes.{AreBytes}
 use Rattle.gf256.specs.Polynomial.{power, value}
-use Rattle.rs_code.specs.Interpolation.{field_sum}
 use Rattle.rs_code.specs.SourceRows.{IsSymbolRow, column}
 use Rattle.rs_code.specs.Symbol.{IsSymbol}
-use Rattle.rs_code.specs.Weights.{AreWeights, point_of, weighed_bytes}
+use Rattle.rs_code.specs.Weights.{AreWeights, weighed_bytes}
 use Rattle.rs_code.proofs.Public.{interpolates, source_is_symbol, symbol_unique, weighed_value}
 use Rattle.sender_schedule.specs.SymbolRow.{symbol_in, symbol_row}
 

@@ -1,5 +1,5 @@
 -- What is written is the datagram, which is short.
-use Rattle.std.proofs.Common.{◌≡◌, ◌∙◌, List, ℕ, length, ap, sym, arith}
+use Rattle.std.proofs.Common.{◌∙◌, length, ap, arith}
 use Rattle.alc_packet.specs.Writing.{written}
 use Rattle.sender_schedule.specs.Datagram.{datagram}
 use Rattle.sender_schedule.proofs.Packets.{packet_is, datagram_short}

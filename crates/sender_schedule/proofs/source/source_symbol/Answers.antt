@@ -1,5 +1,5 @@
 -- The symbol starts within the object, and what is cut from there has its bytes.
-use Rattle.std.proofs.Common.{◌≡◌, ℕ, ◌*◌, ◌^◌, ◌<◌, ◌≤◌, ap, ◌∙◌, subst, arith}
+use Rattle.std.proofs.Common.{◌≡◌, ◌*◌, ◌^◌, ◌<◌, ◌≤◌, ap, ◌∙◌, subst, arith}
 use Rattle.oti_blocks.specs.Partition.{ObjectInformation, IsSound}
 use Rattle.sender_schedule.proofs.Rows.{starts_within}
 use Rattle.sender_schedule.proofs.source.source_symbol.Goals as goal
