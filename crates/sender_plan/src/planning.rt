@@ -13,6 +13,7 @@ ghost use Rattle.sender_plan.specs.Check.{not_rising};
 ghost use Rattle.sender_plan.specs.CatalogInstance.{IsItem};
 ghost use Rattle.sender_plan.specs.Content.{Content, Descriptor, same};
 ghost use Rattle.sender_plan.specs.Plan.{planned, plan_faults, total_of, file_of, files_of, contents, sent_of, session_of};
+ghost use Rattle.sender_plan.specs.Session.{IsSession};
 ghost use Rattle.sender_plan.specs.Inner.Sets.{added, added_all};
 ghost use Rattle.sender_plan.specs.Inner.Planning.{Keeps, IsReady, IsFilable, HasPlaces, shown_kind, place_in, body_at};
 
@@ -50,6 +51,7 @@ pub fn plan(
     requires block { 1 ≤ params.now.max_block }
     requires cycles { 1 ≤ params.now.cycles }
     ensures ok { IfOk result (λ s. s ≡ planned catalog.now bodies.now params.now) }
+    ensures session { IfOk result (λ s. IsSession s) }
     ensures sound { OnOk result (first_fault (plan_faults catalog.now bodies.now params.now) ≡ None) }
     ensures err { IfErr result (λ fault. fault ≢ Memory → first_fault (plan_faults catalog.now bodies.now params.now) ≡ Some fault) }
     ensures memory { IfErr result (λ fault. fault ≡ Memory → first_fault (plan_faults catalog.now bodies.now params.now) ≡ None) }
@@ -89,7 +91,8 @@ fn session(
     requires block { 1 ≤ params.now.max_block }
     requires cycles { 1 ≤ params.now.cycles }
     requires sound { first_fault (plan_faults catalog.now bodies.now params.now) ≡ None }
-    ensures { IfOk result (λ s. s ≡ planned catalog.now bodies.now params.now) }
+    ensures planned { IfOk result (λ s. s ≡ planned catalog.now bodies.now params.now) }
+    ensures session { IfOk result (λ s. IsSession s) }
 {
     let instances = catalog.as_slice();
     let names = name_set(alloc, instances)?;

@@ -76,7 +76,8 @@ impl Session {
         cycles: u16,
     ) -> Session
         requires { IsSession (record { tsi = tsi; objects = objects.items; instances = instances.items; cycles = cycles }) }
-        ensures { result ≡ record { tsi = tsi; objects = objects.items; instances = instances.items; cycles = cycles } }
+        ensures parts { result ≡ record { tsi = tsi; objects = objects.items; instances = instances.items; cycles = cycles } }
+        ensures session { IsSession result }
     {
         Session {
             tsi,

@@ -90,9 +90,9 @@ new-requires-4 c =
       cycles = c.requires.cycles;
     }
 
-pub returns : goal.returns
+pub returns-clause-planned : goal.returns-clause-planned
 unfolding planned
-returns c =
+returns-clause-planned c =
     let params = c.args.params.now in
     let bodies = c.args.bodies.now in
     let instances = c.as_slice-instances.result.now in
@@ -103,7 +103,7 @@ returns c =
     let placed : map (slice_get (map (λ (k : Bor (List ℕ)). k.now) held)) places ≡ map (λ b. Some b) bodies =
     (λ j. map (slice_get (map (λ (k : Bor (List ℕ)). k.now) (c.as_slice.ensures.bodies j))) (c.deref.ensures.value j)) ∙ c.in_ok-bodies.ensures in
     let body = body_at names places held in
-    c.new-4.ensures
+    c.new-4.ensures.parts
     ∙ (λ j. record { tsi = params.tsi; objects = told.objects j; instances = told.instances j; cycles = params.cycles })
     ∙ ap (λ (b : List ℕ → List ℕ). session_of (contents b instances) b instances params) (same_body instances bodies names places held c.in_ok-names.ensures placed)
     ∙ ap (λ (is : List CatalogInstance). session_of (contents (body_of is bodies) is) (body_of is bodies) is params) c.as_slice-instances.ensures.instances
