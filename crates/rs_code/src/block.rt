@@ -54,6 +54,13 @@ impl<'a> Block<'a> {
         self.k
     }
 
+    /// How many bytes a row has.
+    pub(crate) fn size(&self) -> usize
+        ensures { result ≡ self.now.size }
+    {
+        self.size
+    }
+
     /// Leaves in `out` the weight of each row in symbol `esi`.
     pub(crate) fn weights(&self, esi: u8, out: &mut ArrayVec<u8, 255>)
         requires { esi < 255 }

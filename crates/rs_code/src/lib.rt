@@ -14,4 +14,4 @@ mod tests;
 pub use block::Block;
 pub use distinct::are_places;
 pub use places::{Places, weights};
-pub use symbol::{symbol_byte, symbol_into};
+pub use symbol::{first_difference, symbol_byte, symbol_into};

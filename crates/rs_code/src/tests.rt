@@ -1,7 +1,7 @@
 ghost use Rattle.std.specs.Prelude.{◌≡◌, ◌<◌};
 ghost use Rattle.rs_code.specs.Weights.{ArePlaces};
 
-use super::{Block, Places, are_places, symbol_byte, symbol_into, weights};
+use super::{Block, Places, are_places, first_difference, symbol_byte, symbol_into, weights};
 use arrayvec::ArrayVec;
 use std::process::Abort;
 use std::test::Fail;
@@ -45,6 +45,33 @@ fn repair_symbols_of_two_rows(rt: HostRuntime) {
     symbol_into(&wide, 2, &mut out);
     assert_eq!(rt; out, [0x06, 0x00, 0xD2, 0xBA, 0x4E, 0xEC, 0x01]);
     assert_eq!(rt; symbol_byte(&wide, 2, 3), 0xBA);
+}
+
+#[test]
+fn first_differences_from_symbols(rt: HostRuntime) {
+    let rows = [0x03, 0x00, 0x69, 0x00, 0x00, 0x31];
+    let block = Block::new(2, 3, &rows);
+    // Symbol 2 is 02 times the first row and 03 times the second.
+    for (esi, bytes, at) in [
+        (2, [0x06, 0x00, 0x81], None),
+        (2, [0x07, 0x00, 0x81], Some(0)),
+        (2, [0x06, 0x01, 0x80], Some(1)),
+        (2, [0x06, 0x00, 0x80], Some(2)),
+        (1, [0x00, 0x00, 0x31], None),
+        (1, [0x00, 0x00, 0x69], Some(2)),
+    ] {
+        assert_eq!(rt;
+            first_difference(&block, esi, &bytes),
+            at,
+            "symbol {esi}, {bytes:?}"
+        );
+    }
+    // Zeros stand behind the bytes.
+    assert_eq!(rt; first_difference(&block, 2, &[0x06]), Some(2));
+    assert_eq!(rt;
+        first_difference(&Block::new(2, 2, &rows[..4]), 1, &[0x69]),
+        None
+    );
 }
 
 #[test]
