@@ -48,7 +48,7 @@ still_there c kept (x ∷ xs) there = by (same c x) refl there (still_there c (a
         any_stays same (same c) (added same kept x) xs (any_through same same_transitive c x (added same kept x) is (is_added same kept x (content_itself x)))
     by false is there later = later there
 
-in_distinct : (all : List Content) (c : Content) → list_any (same c) all ≡ true → list_any (same c) (distinct same all) ≡ true
+pub in_distinct : (all : List Content) (c : Content) → list_any (same c) all ≡ true → list_any (same c) (distinct same all) ≡ true
 in_distinct all c there = ap (list_any (same c)) (sym (added_all-distinct same same_transitive all)) ∙ still_there c [] all there
 
 pub other_identifiers : (all : List Content) (a b : Content) → list_any (same a) all ≡ true → list_any (same b) all ≡ true

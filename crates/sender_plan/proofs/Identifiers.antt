@@ -14,6 +14,7 @@ use Rattle.sender_plan.specs.Inner.Planning.{place_in}
 use Rattle.sender_plan.proofs.Sets.{added_all-append, added_all-distinct}
 use Rattle.sender_plan.proofs.Keys.{files_itself}
 use Rattle.sender_plan.proofs.Keeping.{place_in_front}
+use Rattle.sender_plan.proofs.Planned.{distinct_length}
 
 abbrev pub number_same : ℕ → ℕ → Bool
 number_same a b = a == b
@@ -40,6 +41,9 @@ first_places_distinct (t ∷ ts) = ap (λ us. t ∷ filter (λ u. not (u == t)) 
 
 pub added_all-first_places : (ts : List ℕ) → added_all number_same [] ts ≡ first_places ts
 added_all-first_places ts = added_all-distinct number_same numbers_transitive ts ∙ sym (first_places_distinct ts)
+
+pub first_places_length : (ts : List ℕ) → length (first_places ts) ≤ length ts
+first_places_length ts = omega (arith, ap length (first_places_distinct ts), distinct_length number_same ts)
 
 -- ---- what is made of a list
 

@@ -13,5 +13,8 @@ mod Sessions
 mod Planned
 mod Filing
 mod Apart
+pub mod Distincts
+mod ReadBack
+pub mod LastInstance
 pub mod Texts
 pub mod Public

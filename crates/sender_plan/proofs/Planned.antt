@@ -1,12 +1,13 @@
 -- What holds of a plan that nothing refuses.
 use Rattle.std.proofs.Common.{◌≡◌, ℕ, zero, suc, ◌+◌, ◌*◌, ◌≤◌, Bool, true, false, not, cond, List, [], ◌∷◌, ◌++◌, Option, Some, None}
-use Rattle.std.proofs.Common.{length, length-append, get_or, refl, ap, subst, ◌∙◌, arith}
+use Rattle.std.proofs.Common.{length, length-append, get_or, refl, sym, ap, subst, ◌∙◌, arith}
 use Rattle.std.specs.Prelude.{All, filter, slice_get, option_map, nat_lt}
 use Rattle.std.specs.List.{flat_map, AllByRecursion}
 use Rattle.std.specs.Str.{bytes_eq}
 use Rattle.std.proofs.lemmas.Bool.{ltb-false}
 use Rattle.std.proofs.lemmas.List.{length-map}
 use Rattle.std.proofs.lemmas.List.Concat.{flat_map-cons}
+use Rattle.std.proofs.lemmas.List.Sums.{sum_by-cons}
 use Rattle.wire_bytes.specs.FirstFault.{fault_when, first_fault}
 use Rattle.wire_bytes.proofs.Public.{none_hold, cause_fails}
 use Rattle.sender_plan.specs.declared.params.Params.{Params}
@@ -57,6 +58,21 @@ refused_large instances bodies params none more = first_back (check_faults insta
 pub not_refused : (instances : List CatalogInstance) (bodies : List (List ℕ)) (params : Params) → first_fault (check_faults instances params) ≡ None
     → nat_lt most_bytes (total_of bodies) ≡ false → first_fault (plan_faults instances bodies params) ≡ None
 not_refused instances bodies params none less = first_back (check_faults instances params) (large bodies) none ∙ rw less refl
+
+within_total : (bodies : List (List ℕ)) (at : ℕ) → length (get_or bodies at []) ≤ total_of bodies
+within_total [] at = omega arith
+within_total (b ∷ bodies) zero = omega (arith, sum_by-cons length b bodies)
+within_total (b ∷ bodies) (suc at) = omega (arith, sum_by-cons length b bodies, within_total bodies at)
+
+-- no body of a plan that isn't refused is larger than all may be together
+pub short_bodies : (instances : List CatalogInstance) (bodies : List (List ℕ)) (params : Params) → first_fault (plan_faults instances bodies params) ≡ None
+    → (at : ℕ) → length (get_or bodies at []) ≤ 268435456
+short_bodies instances bodies params none at =
+    let few = none_front (check_faults instances params) (large bodies) none in
+    let last = none_hold (fault_when (nat_lt most_bytes (total_of bodies)) (TooLarge (total_of bodies))) []
+    (sym (first_back (check_faults instances params) (large bodies) few) ∙ none) in
+    let all = ltb-false most_bytes (total_of bodies) (cause_fails (nat_lt most_bytes (total_of bodies)) (TooLarge (total_of bodies)) last.0) in
+    omega (arith, all, within_total bodies at)
 
 pub record NoneRefuses (instances : List CatalogInstance) (params : Params) : Type 0 where
   pub rising : not_rising 1 None instances ≡ None
@@ -150,7 +166,7 @@ few_contents body instances few less = omega (arith, less, contents_length body 
 
 -- ---- it is a session
 
-same_some : {X : Type 0} (x y : X) → Some x ≡ Some y → x ≡ y
+pub same_some : {X : Type 0} (x y : X) → Some x ≡ Some y → x ≡ y
 same_some x y is = cc
 
 toi_at : (params : Params) (toi : ℕ) (texts : List (List ℕ)) (position : ℕ) (o : SentObject) → slice_get (objects_from params toi texts) position ≡ Some o

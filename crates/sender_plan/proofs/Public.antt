@@ -1,2 +1,3 @@
 -- What other crates may cite of this crate's proofs.
 pub use Rattle.sender_plan.proofs.Texts.{texts_within}
+pub use Rattle.sender_plan.proofs.Distincts.{of_mapped}

@@ -32,11 +32,11 @@ same_transitive (Descriptor a) (Descriptor b) (Descriptor c) ab bc = eq-eqb a.nu
 
 -- ---- numbers rise
 
-not_first : (t : Bool) (at : ℕ) (later : Option ℕ) → cond t (Some at) later ≡ None → (t ≡ false) × (later ≡ None)
+pub not_first : (t : Bool) (at : ℕ) (later : Option ℕ) → cond t (Some at) later ≡ None → (t ≡ false) × (later ≡ None)
 not_first true at later is = absurd cc
 not_first false at later is = (refl, is)
 
-rises : (at before : ℕ) (x : CatalogInstance) (front rest : List CatalogInstance) → not_rising at (Some before) (front ++ x ∷ rest) ≡ None → before < x.number
+pub rises : (at before : ℕ) (x : CatalogInstance) (front rest : List CatalogInstance) → not_rising at (Some before) (front ++ x ∷ rest) ≡ None → before < x.number
 rises at before x [] rest rising =
     leb-false x.number before (not_first (nat_le x.number before) at (not_rising (at + 1) (Some x.number) rest) rising).0
 rises at before x (y ∷ front) rest rising =
@@ -72,7 +72,7 @@ module _ (body : List ℕ → List ℕ) (front : List CatalogInstance) (instance
   abbrev pub with_files : List Content
   with_files = added_all same before (files_of body instance)
 
-  contents_more : (rest : List CatalogInstance) → contents body (front ++ instance ∷ rest)
+  pub contents_more : (rest : List CatalogInstance) → contents body (front ++ instance ∷ rest)
       ≡ contents body front ++ (files_of body instance ++ Descriptor instance ∷ contents body rest)
   contents_more rest =
       flat_map-append (contents_of body) front (instance ∷ rest)

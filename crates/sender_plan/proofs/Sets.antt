@@ -10,7 +10,7 @@ use Rattle.std.proofs.lemmas.Slice.Eq.{bytes_eq-Decides}
 use Rattle.sender_plan.specs.Distinct.{distinct}
 use Rattle.sender_plan.specs.Inner.Sets.{added, added_all, IsTransitive}
 
-or_second : (t u : Bool) → u ≡ true → (t || u) ≡ true
+pub or_second : (t u : Bool) → u ≡ true → (t || u) ≡ true
 or_second true u is = refl
 or_second false u is = is
 

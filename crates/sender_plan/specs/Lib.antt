@@ -7,4 +7,6 @@ pub mod Names
 pub mod Check
 pub mod Content
 pub mod Plan
+pub mod PlanOf
+pub mod Installed
 pub mod Inner
