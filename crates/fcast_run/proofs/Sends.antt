@@ -7,7 +7,7 @@ use Rattle.edge_io.specs.Faults.{Rose}
 use Rattle.sender_plan.specs.CatalogInstance.{CatalogInstance}
 use Rattle.sender_plan.specs.Names.{names_of}
 use Rattle.sender_plan.specs.Plan.{planned, plan_faults}
-use Rattle.sender_plan.specs.Session.{Session}
+use Rattle.sender_plan.specs.Session.{Session, IsSession}
 use Rattle.sender_plan.specs.declared.params.Params.{Params}
 pub use Rattle.sender_plan.proofs.Public.{texts_within}
 use Rattle.sender_schedule.specs.Schedule.{schedule}
@@ -185,3 +185,8 @@ pub is_sent : (found : Found) (s : Sending) (session : Session) → asked found 
     → ((sent found s).status ≡ 0) × ((sent found s).line ≡ []) × (schedule session ≡ (sent found s).datagrams)
 unfolding sent
 is_sent found s session is = rw is (refl, refl, refl)
+
+-- what is asked is sound where what was made of it is
+pub is_sound : (found : Found) (s : Sending) (made : Session) → asked found s ≡ Ok made → IsSession made
+    → (session : Session) → asked found s ≡ Ok session → IsSession session
+is_sound found s made is sound session same = subst IsSession (let both = sym is ∙ same in let e : made ≡ session = cc in e) sound

@@ -3,6 +3,7 @@ ghost use Rattle.std.specs.Prelude.{◌≡◌, ◌≤◌, ◌+◌, [], All, IfOk
 ghost use Rattle.edge_io.specs.Faults.{Rose};
 ghost use Rattle.sender_plan.specs.Names.{names_of};
 ghost use Rattle.sender_plan.specs.Plan.{planned, plan_faults};
+ghost use Rattle.sender_plan.specs.Session.{IsSession};
 ghost use Rattle.fcast_run.specs.Send.{asked, catalog_in, checked, session_of, unless_any};
 ghost use Rattle.fcast_run.specs.Inner.Ranges.{AreParams};
 ghost use Rattle.fcast_run.specs.Inner.Sends.{Decides, Halts, fault_stop};
@@ -20,6 +21,7 @@ use std::alloc::Global;
 pub fn load<F: Files>(alloc: Global, sending: &Sending, files: &mut F) -> Result<Session, Stop>
     requires { AreParams sending.now.params }
     ensures decides { F.told files.old → Decides (asked (F.found files.old) sending.now) result }
+    ensures sound { IfOk result (λ s. IsSession s) }
     ensures halts { Halts result ⊥ (Rose (F.faults files.old) (F.faults files.new)) (Rose (F.misses files.old) (F.misses files.new)) }
 {
     let text = match read_file(files, &sending.catalog) {
@@ -44,6 +46,7 @@ fn session_of<F: Files>(
     requires params { AreParams params.now }
     requires texts { All (λ i. All (λ item. length item.location + length (unwrap_or item.kind []) ≤ 16777216) i.items) catalog.now }
     ensures decides { F.told files.old → Decides (session_of (F.found files.old) params.now catalog.now) result }
+    ensures sound { IfOk result (λ s. IsSession s) }
     ensures halts { Halts result ⊥ (Rose (F.faults files.old) (F.faults files.new)) (Rose (F.misses files.old) (F.misses files.new)) }
 {
     match check(catalog, params) {
@@ -92,6 +95,7 @@ fn plan(alloc: Global, catalog: &Catalog, bodies: &Bodies, params: &Params) -> R
     requires many { length bodies.now ≡ length (names_of catalog.now) }
     requires texts { All (λ i. All (λ item. length item.location + length (unwrap_or item.kind []) ≤ 16777216) i.items) catalog.now }
     ensures decides { Decides (unless_any (plan_faults catalog.now bodies.now params.now) (planned catalog.now bodies.now params.now)) result }
+    ensures sound { IfOk result (λ s. IsSession s) }
     ensures halts { Halts result ⊥ ⊥ ⊥ }
 {
     match sender_plan::plan(alloc, catalog, bodies.as_slice(), params) {

@@ -1,9 +1,10 @@
 //! The command `send`.
-ghost use Rattle.std.specs.Prelude.{◌≡◌, ◌≢◌, ◌++◌, ◌⊎◌, true, Some, IfOk, IfErr, OnOk, string_bytes};
+ghost use Rattle.std.specs.Prelude.{◌≡◌, ◌≢◌, ◌++◌, ◌⊎◌, true, Some, Ok, IfOk, IfErr, OnOk, string_bytes};
 ghost use Rattle.edge_io.specs.Faults.{Rose};
+ghost use Rattle.sender_plan.specs.Session.{Session, IsSession};
 ghost use Rattle.fcast_run.specs.Endings.{is_refused, is_send_status, is_unsent, IsDecided, AddsPart};
 ghost use Rattle.fcast_run.specs.Dump.{labelled};
-ghost use Rattle.fcast_run.specs.Send.{sent, refusal_line, refusal_status, refusal_text};
+ghost use Rattle.fcast_run.specs.Send.{asked, sent, refusal_line, refusal_status, refusal_text};
 ghost use Rattle.fcast_run.specs.Inner.Ranges.{AreParams};
 ghost use Rattle.fcast_run.specs.Inner.Sends.{ComesTo, Halts, IsAloneAt, Sends};
 
@@ -28,6 +29,7 @@ pub fn send<E: Emit, F: Files, T: Text>(
     requires { AreParams sending.now.params }
     ensures table { is_send_status result ≡ true }
     ensures status { F.told files.old → IsDecided result → result ≡ (sent (F.found files.old) sending.now).status }
+    ensures sound { F.told files.old → result ≡ 0 → (s : Session) → asked (F.found files.old) sending.now ≡ Ok s → IsSession s }
     ensures sent { F.told files.old → E.told emit.old → IsDecided result
         → E.sent emit.new ≡ E.sent emit.old ++ (sent (F.found files.old) sending.now).datagrams }
     ensures part { F.told files.old → E.told emit.old → (result ≡ 5) ⊎ (result ≡ 9)
@@ -58,7 +60,7 @@ pub fn send<E: Emit, F: Files, T: Text>(
 }
 
 /// Sends the session.
-#[tactic(auto, using(crate::proofs::Sends::is_refused, crate::proofs::Sends::is_sent, crate::proofs::Sends::halts_at_files, crate::proofs::Answered::nothing_added))]
+#[tactic(auto, using(crate::proofs::Sends::is_refused, crate::proofs::Sends::is_sent, crate::proofs::Sends::is_sound, crate::proofs::Sends::halts_at_files, crate::proofs::Answered::nothing_added))]
 fn send_files<E: Emit, F: Files>(
     alloc: Global,
     sending: &Sending,
@@ -67,6 +69,7 @@ fn send_files<E: Emit, F: Files>(
 ) -> Result<(), Stop>
     requires { AreParams sending.now.params }
     ensures comes { F.told files.old → ComesTo (sent (F.found files.old) sending.now) result }
+    ensures sound { OnOk result (F.told files.old → (s : Session) → asked (F.found files.old) sending.now ≡ Ok s → IsSession s) }
     ensures sends { F.told files.old → E.told emit.old
         → Sends result (sent (F.found files.old) sending.now).datagrams (E.sent emit.old) (E.sent emit.new) }
     ensures alone { IfErr result (λ stop. IsAloneAt stop (emit.new ≡ emit.old)) }

@@ -1,14 +1,16 @@
 //! The top call.
-ghost use Rattle.std.specs.Prelude.{◌≡◌, ◌≢◌, ◌+◌, ◌++◌, ◌⊎◌, ℕ, true, false, Some, None, All, drop};
+ghost use Rattle.std.specs.Prelude.{◌≡◌, ◌≢◌, ◌+◌, ◌++◌, ◌⊎◌, ℕ, true, false, Some, None, Ok, All, drop};
 ghost use Rattle.edge_io.specs.Faults.{Rose};
 ghost use Rattle.edge_io.specs.ShelfCalls.{after};
 ghost use Rattle.object_store.specs.Session.{Session, IsSession};
 ghost use Rattle.object_store.specs.KeptSet.{drops};
+ghost use Rattle.sender_plan.specs.Session as plans;
 ghost use Rattle.fcast_run.specs.Commands.{is_command, receiving_of, dump_of, send_of, drill_of};
 ghost use Rattle.fcast_run.specs.Texts.{usage_line};
 ghost use Rattle.fcast_run.specs.Outcome.{received, asked, datagrams_taken, packets_taken};
 ghost use Rattle.fcast_run.specs.Dump.{dumped};
 ghost use Rattle.fcast_run.specs.Send.{sent};
+ghost use Rattle.fcast_run.specs.Send as sends;
 ghost use Rattle.fcast_run.specs.Drill.{drilled};
 ghost use Rattle.fcast_run.specs.Endings.{is_status, is_apart, is_unsent, IsDone, IsDecided, AddsPart, AcceptsPart, AcceptsFewer};
 ghost use Rattle.fcast_run.specs.Events.{events_taken, HearsPart, HearsFirst};
@@ -152,6 +154,9 @@ pub fn run<D: Datagrams, E: Emit, F: Files, S: Shelf, T: Text>(
     // A send: its status, and what the sink and the text get.
     ensures send_status { (s : Sending) → send_of words.now ≡ Some s → F.told edge.old.files → IsDecided result
         → result ≡ (sent (F.found edge.old.files) s).status }
+    // What was sent is the schedule of a sound session, of which the law `what_is_sent_is_a_session` speaks.
+    ensures send_sound { (s : Sending) → send_of words.now ≡ Some s → F.told edge.old.files → result ≡ 0
+        → (session : plans.Session) → sends.asked (F.found edge.old.files) s ≡ Ok session → plans.IsSession session }
     ensures send_sent { (s : Sending) → send_of words.now ≡ Some s → F.told edge.old.files → E.told edge.old.emit → IsDecided result
         → E.sent edge.new.emit ≡ E.sent edge.old.emit ++ (sent (F.found edge.old.files) s).datagrams }
     ensures send_part { (s : Sending) → send_of words.now ≡ Some s → F.told edge.old.files → E.told edge.old.emit → (result ≡ 5) ⊎ (result ≡ 9)

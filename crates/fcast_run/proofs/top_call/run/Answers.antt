@@ -58,6 +58,11 @@ returns-in-Dump-clause-dump_complete g c =
     for_value _ _ c.in-Dump.most (dump_is _ _ _ c.args.words.now c.in-Some.is c.in-Dump.is c.in-Ok.ensures.dump) (λ told datagrams text.
     complete c.dump-done.result c.status_of-in-Dump.result _ _ _ ⊥ ends datagrams text (λ none. none) done.blames (done.status told))
 
+pub returns-in-Send-clause-send_sound : goal.returns-in-Send-clause-send_sound
+returns-in-Send-clause-send_sound g c =
+    for_value _ _ c.in-Send.sending (send_is _ _ _ c.args.words.now c.in-Some.is c.in-Send.is c.in-Ok.ensures.send)
+    (λ told zero. c.send.ensures.sound told zero)
+
 pub returns-in-Send-clause-send_part : goal.returns-in-Send-clause-send_part
 returns-in-Send-clause-send_part g c =
     for_value _ _ c.in-Send.sending (send_is _ _ _ c.args.words.now c.in-Some.is c.in-Send.is c.in-Ok.ensures.send)
