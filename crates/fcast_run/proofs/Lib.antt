@@ -7,6 +7,7 @@ pub mod Dumping
 pub mod EventLists
 pub mod Headline
 pub mod Installing
+pub mod LastInstance
 pub mod Lists
 pub mod Ranges
 pub mod Sends

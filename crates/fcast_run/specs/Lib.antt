@@ -5,6 +5,7 @@ pub mod Endings
 pub mod Dump
 pub mod Send
 pub mod SentSession
+pub mod LastInstance
 pub mod Drill
 pub mod Headline
 pub mod Events
