@@ -1,27 +1,28 @@
 -- A block in memory, as a map from places to rows.
 use Rattle.std.proofs.Common.{◌≡◌, ◌≢◌, ℕ, zero, suc, ◌+◌, ◌-◌, ◌*◌, ◌<◌, ◌≤◌, Bool, true, false, ◌||◌, cond, List, [], ◌∷◌, ◌++◌}
-use Rattle.std.proofs.Common.{length, get_or, take, drop, refl, sym, ap, subst, ◌∙◌, arith, All, AllPairs, Option, Some, None}
+use Rattle.std.proofs.Common.{length, get_or, take, drop, refl, sym, ap, subst, ◌∙◌, arith, All, Option, Some, None}
 use Rattle.std.proofs.Common.{eqb-true, append_assoc, replicate}
 use Rattle.std.specs.Prelude.{if◌then◌else◌, is_some, ◌==◌, nat_le, option_map}
 use Rattle.std.specs.List.{list_any, position_from}
 use Rattle.std.specs.Ordering.{nat_cmp, eq_by_cmp}
-use Rattle.std.specs.FinMap.{FinMap, empty, get, insert, find, from_entries, get-from_entries, from_entries_push, nat_cmp-IsAntisymmetric}
+use Rattle.std.specs.FinMap.{empty, get, insert, find, from_entries, get-from_entries, from_entries_push, nat_cmp-IsAntisymmetric}
 use Rattle.std.specs.Cmp.{nat_cmp_total}
 use Rattle.std.proofs.lemmas.Bool.Decides.{nat_tests}
 use Rattle.std.proofs.lemmas.List.{drop-drop, take-append-le, drop-append-le, take_all, take_at, length-drop, length-append}
 use Rattle.std.proofs.lemmas.List.Elements.{All-push}
 use Rattle.std.proofs.lemmas.List.Quantifiers.{all_pairs_push}
-use Rattle.gf256.specs.Polynomial.{AreDifferent}
+use Rattle.gf256.specs.Polynomial.{AreBytes, AreDifferent}
 use Rattle.rs_code.specs.Weights.{ArePlaces}
-use Rattle.rs_solve.specs.Solution.{IsSolution, missing, missing_below, row_at}
+use Rattle.rs_solve.specs.Solution.{missing, missing_below, row_at}
 use Rattle.wire_bytes.specs.Below.{count_below}
 use Rattle.wire_bytes.proofs.Public.{count_is_sum, sum_with, count_none, count_same}
-use Rattle.object_store.specs.Inner.BlockHeld.{BlockHeld, held_in, sources_in, is_full, solving_steps, IsSource}
-use Rattle.object_store.specs.Inner.BlockRows.{row_entries, rows_map, IsBlock, steps_when_full}
+use Rattle.object_store.specs.Inner.BlockHeld.{held_in, sources_in, is_full, solving_steps, IsSource}
+use Rattle.object_store.specs.Inner.BlockRows.{row_entries, rows_map, symbol_row, rows_held, IsBlock, steps_when_full}
 use Rattle.wire_bytes.specs.Bytes.{zero_filled}
 use Rattle.rs_code.specs.SourceRows.{cut, IsSymbolRow}
 use Rattle.object_store.proofs.Nothing.{nothing_listed}
 use Rattle.object_store.proofs.Places.{tied_numbers}
+use Rattle.object_store.proofs.SymbolRows.{symbol_row_is, row_of_symbols, held_when_full}
 
 -- the place is among these
 abbrev pub is_among : ℕ → List ℕ → Bool
@@ -104,8 +105,8 @@ pub rows_of_none : (size : ℕ) (places rows : List ℕ) → places ≡ [] → r
 unfolding rows_map
 rows_of_none size places rows none = ap (λ (ps : List ℕ). from_entries (row_entries size ps rows)) none
 
-pub block_of_none : (k n size : ℕ) → 1 ≤ k → k ≤ n → n ≤ 255 → 1 ≤ size → (source : List ℕ) → IsBlock k n size [] [] source
-block_of_none k n size some order fits wide source = record {
+pub block_of_none : (k n size : ℕ) → 1 ≤ k → k ≤ n → n ≤ 255 → 1 ≤ size → IsBlock k n size [] []
+block_of_none k n size some order fits wide = record {
   some = some;
   wide = wide;
   order = order;
@@ -114,7 +115,6 @@ block_of_none k n size some order fits wide source = record {
   below = λ i d less. absurd (omega arith);
   different = λ i j d less lt. absurd (omega arith);
   whole = omega arith;
-  solved = λ e. absurd (omega arith);
 }
 
 -- ---- how many rows
@@ -145,9 +145,9 @@ count_among n (p ∷ places) below different =
     elsewhere p j places ne = let e : (p == j) ≡ false = grind (arith, nat_tests) in rw e refl
 
 -- the symbols of a block in memory
-pub held_is_length : (k n size : ℕ) (places rows source : List ℕ) → IsBlock k n size places rows source
+pub held_is_length : (k n size : ℕ) (places bytes rows : List ℕ) → IsBlock k n size places bytes
     → held_in (record { k = k; n = n; size = size; rows = rows_map size places rows }) ≡ length places
-held_is_length k n size places rows source is =
+held_is_length k n size places bytes rows is =
     count_same n (λ j. is_some (get (rows_map size places rows) j)) (λ j. is_among j places)
     (λ j less. row_among size j places rows) ∙ count_among n places is.below is.different
 
@@ -170,44 +170,31 @@ apart_from j (p ∷ places) absent i d less = elim (p == j) as (λ b. (p == j) �
     at_each p places (suc i) d less first others = others i d (omega arith)
 
 -- the block with one more place and its row, before it is solved
-pub record IsWith (k n size : ℕ) (places rows : List ℕ) : Type 0 where
-  pub some : 1 ≤ k
-  pub wide : 1 ≤ size
-  pub order : k ≤ n
-  pub fits : n ≤ 255
-  pub least : 1 ≤ length places
-  pub most : length places ≤ k
-  pub below : All (λ p. p < n) places
-  pub different : AreDifferent places
-  pub whole : length rows ≡ length places * size
+pub with_row : (k n size j : ℕ) (places rows row : List ℕ) → IsBlock k n size places rows → j < n → get (rows_map size places rows) j ≡ None
+    → length places < k → length row ≡ size → IsBlock k n size (places ++ j ∷ []) (rows ++ row)
+with_row k n size j places rows row is less vacant wanting long = record {
+  some = is.some;
+  wide = is.wide;
+  order = is.order;
+  fits = is.fits;
+  most = omega (arith, length-append places (j ∷ []), wanting);
+  below = All-push (λ p. p < n) places j is.below less;
+  different = all_pairs_push (λ x y. x ≢ y) places j is.different (λ i d lt. apart_from j places (not_among size j places rows vacant) i d lt);
+  whole = length-append rows row ∙ (let l = length-append places (j ∷ []) in let w = is.whole in
+      let m : (length places + 1) * size ≡ length places * size + size = omega arith in omega (arith, l, w, m, long, ap (λ (m : ℕ). m * size) l));
+}
 
-pub with_row : (k n size j : ℕ) (places rows source row : List ℕ) → IsBlock k n size places rows source → j < n → get (rows_map size places rows) j ≡ None
-    → held_in (record { k = k; n = n; size = size; rows = rows_map size places rows }) < k → length row ≡ size → IsWith k n size (places ++ j ∷ []) (rows ++ row)
-with_row k n size j places rows source row is less vacant wanting long =
-    let count = held_is_length k n size places rows source is in record {
-      some = is.some;
-      wide = is.wide;
-      order = is.order;
-      fits = is.fits;
-      least = omega (arith, length-append places (j ∷ []));
-      most = omega (arith, length-append places (j ∷ []), count, wanting);
-      below = All-push (λ p. p < n) places j is.below less;
-      different = all_pairs_push (λ x y. x ≢ y) places j is.different (λ i d lt. apart_from j places (not_among size j places rows vacant) i d lt);
-      whole = length-append rows row ∙ (let l = length-append places (j ∷ []) in let w = is.whole in
-          let m : (length places + 1) * size ≡ length places * size + size = omega arith in omega (arith, l, w, m, long, ap (λ (m : ℕ). m * size) l));
-    }
-
-pub are_places : (k n size : ℕ) (places rows : List ℕ) → IsWith k n size places rows → ArePlaces places
-are_places k n size places rows is = record {
-  some = is.least;
+pub are_places : (k n size : ℕ) (places rows : List ℕ) → IsBlock k n size places rows → 1 ≤ length places → ArePlaces places
+are_places k n size places rows is least = record {
+  some = least;
   most = omega (arith, is.most, is.order, is.fits);
   different = is.different;
   below = λ i d less. let b = is.below i d less in omega (arith, b, is.fits);
 }
 
-pub block_with : (k n size : ℕ) (places rows source : List ℕ) → IsWith k n size places rows
-    → (length places ≡ k → IsSolution size places rows source) → IsBlock k n size places rows source
-block_with k n size places rows source is solved = record {
+-- as many other bytes serve
+pub block_with : (k n size : ℕ) (places rows other : List ℕ) → IsBlock k n size places rows → length other ≡ length rows → IsBlock k n size places other
+block_with k n size places rows other is same = record {
   some = is.some;
   wide = is.wide;
   order = is.order;
@@ -215,8 +202,7 @@ block_with k n size places rows source is solved = record {
   most = is.most;
   below = is.below;
   different = is.different;
-  whole = is.whole;
-  solved = solved;
+  whole = same ∙ is.whole;
 }
 
 -- the rows with one more
@@ -265,16 +251,10 @@ steps_by_count count k missed sources most split = elim (count == k) as (λ b. (
       | false ↦ λ e. let le : nat_le k count ≡ false = grind (arith, nat_tests) in rw le refl
     ] refl
 
-pub held_with : (k n size : ℕ) (places rows : List ℕ) → IsWith k n size places rows
-    → held_in (record { k = k; n = n; size = size; rows = rows_map size places rows }) ≡ length places
-held_with k n size places rows is =
-    count_same n (λ j. is_some (get (rows_map size places rows) j)) (λ j. is_among j places)
-    (λ j less. row_among size j places rows) ∙ count_among n places is.below is.different
-
-pub steps_with : (k n size : ℕ) (places rows : List ℕ) → IsWith k n size places rows
+pub steps_with : (k n size : ℕ) (places rows : List ℕ) → IsBlock k n size places rows
     → steps_when_full k places ≡ solving_steps (record { k = k; n = n; size = size; rows = rows_map size places rows })
 steps_with k n size places rows is =
-    let held = held_with k n size places rows is in
+    let held = held_is_length k n size places rows rows is in
     let sources : sources_in (record { k = k; n = n; size = size; rows = rows_map size places rows }) ≡ count_below k (λ j. is_among j places) =
     count_same k (λ j. is_some (get (rows_map size places rows) j)) (λ j. is_among j places) (λ j less. row_among size j places rows) in
     steps_by_count (length places) k (missing places) (count_below k (λ j. is_among j places)) is.most
@@ -284,24 +264,38 @@ steps_with k n size places rows is =
 
 -- ---- solved
 
-pub source_of : (k n size : ℕ) (places rows source : List ℕ) → IsBlock k n size places rows source
-    → is_full (record { k = k; n = n; size = size; rows = rows_map size places rows }) ≡ true
-    → IsSource (record { k = k; n = n; size = size; rows = rows_map size places rows }) source
-source_of k n size places rows source is full =
-    let count = held_is_length k n size places rows source is in
-    let least : k ≤ length places = at_most k (length places) (ap (nat_le k) (sym count) ∙ full) in
-    let all : length places ≡ k = omega (arith, least, is.most) in
-    let solution = is.solved all in record {
-      long = solution.whole ∙ ap (λ (m : ℕ). m * size) all;
-      symbols = λ j row found.
-          let s = row_stands size j places rows row found in
-          subst (λ (m : ℕ). IsSymbolRow (cut m size source) size j row) all
-          (subst (λ (r : List ℕ). IsSymbolRow (cut (length places) size source) size j r) (sym s.is)
-          (subst (λ (i : ℕ). IsSymbolRow (cut (length places) size source) size i (row_at size rows s.at)) s.place (solution.symbols s.at s.less)));
-    }
+-- a block with k symbols has k places
+pub places_when_full : (k n size : ℕ) (places bytes rows : List ℕ) → IsBlock k n size places bytes
+    → is_full (record { k = k; n = n; size = size; rows = rows_map size places rows }) ≡ true → length places ≡ k
+places_when_full k n size places bytes rows is full =
+    let least : k ≤ length places = at_most k (length places) (ap (nat_le k) (sym (held_is_length k n size places bytes rows is)) ∙ full) in
+    omega (arith, least, is.most)
   where
     at_most : (n m : ℕ) → nat_le n m ≡ true → n ≤ m
     at_most n m h = grind (arith, nat_tests)
+
+-- and one with fewer has fewer
+pub places_when_open : (k n size : ℕ) (places bytes rows : List ℕ) → IsBlock k n size places bytes
+    → is_full (record { k = k; n = n; size = size; rows = rows_map size places rows }) ≡ false → length places < k
+places_when_open k n size places bytes rows is full =
+    fewer k (length places) (ap (nat_le k) (sym (held_is_length k n size places bytes rows is)) ∙ full)
+  where
+    fewer : (n m : ℕ) → nat_le n m ≡ false → m < n
+    fewer n m h = grind (arith, nat_tests)
+
+-- its rows are symbols of the source rows
+pub source_of : (k n size : ℕ) (places source : List ℕ) → IsBlock k n size places source → AreBytes source → length places ≡ k
+    → IsSource (record { k = k; n = n; size = size; rows = rows_map size places (rows_held k size places source) }) source
+source_of k n size places source is are all = record {
+  long = is.whole ∙ ap (λ (m : ℕ). m * size) all;
+  symbols = λ j row found.
+      let s = row_stands size j places (rows_held k size places source) row found in
+      let row_is : symbol_row k size source j ≡ row =
+      ap (symbol_row k size source) (sym s.place) ∙ sym (row_of_symbols k size s.at source places s.less)
+      ∙ ap (λ (xs : List ℕ). row_at size xs s.at) (sym (held_when_full k size places source all)) ∙ sym s.is in
+      subst (IsSymbolRow (cut k size source) size j) row_is
+      (symbol_row_is k size j source (omega (arith, is.order, is.fits)) are);
+}
 
 -- ---- taken back
 

@@ -1,10 +1,10 @@
 -- A new packet enters the objects.
-use Rattle.std.proofs.Common.{◌≡◌, ℕ, ◌+◌, ◌-◌, ◌*◌, ◌<◌, ◌≤◌, Bool, true, false, List, [], ◌∷◌, ◌++◌, refl, sym, ap, subst, ◌∙◌, arith, Option, Some, None, option_map}
-use Rattle.std.specs.Prelude.{if◌then◌else◌, unwrap_or, ◌^◌}
+use Rattle.std.proofs.Common.{◌≡◌, ℕ, ◌+◌, ◌-◌, ◌*◌, ◌≤◌, Bool, true, List, [], ◌∷◌, ◌++◌, refl, sym, ap, subst, ◌∙◌, arith, Option, Some, None, option_map}
+use Rattle.std.specs.Prelude.{if◌then◌else◌, unwrap_or}
 use Rattle.std.specs.Ordering.{nat_cmp}
 use Rattle.std.specs.FinMap.{FinMap, get, insert}
 use Rattle.std.specs.BTreeMap.{BTreeMap, Updates}
-use Rattle.oti_blocks.specs.Partition.{ObjectInformation, size_at, encoding_at}
+use Rattle.oti_blocks.specs.Partition.{ObjectInformation, size_at}
 use Rattle.alc_packet.specs.Packet.{SymbolPacket, IsPacket}
 use Rattle.object_store.specs.declared.kept.Kept.{Kept}
 use Rattle.object_store.specs.declared.kept.Kept.TheVariants.{New}
@@ -12,9 +12,9 @@ use Rattle.object_store.specs.Held.{Held, symbols_held, joined}
 use Rattle.object_store.specs.Count.{byte_count, charge}
 use Rattle.object_store.specs.HeldPair.{IsHeldPair}
 use Rattle.object_store.specs.Ready.{is_block_ready, is_ready, sources_held}
-use Rattle.object_store.specs.Verdict.{verdict, is_new, step, row_steps, steps_for, completes_block, completes_object, new_in}
-use Rattle.object_store.specs.Store.{IsListed, ready_with}
-use Rattle.object_store.specs.Inner.ObjectHeld.{ObjectHeld, new_object, object_row, symbols_in, sources_at, is_block_done, is_done, with_packet, steps_at, Joins}
+use Rattle.object_store.specs.Verdict.{verdict, is_new, row_steps, steps_for, completes_block}
+use Rattle.object_store.specs.Store.{IsListed}
+use Rattle.object_store.specs.Inner.ObjectHeld.{ObjectHeld, new_object, sources_at, is_block_done, is_done, with_packet, steps_at, Joins}
 use Rattle.object_store.specs.Inner.ObjectParts.{map_of}
 use Rattle.object_store.specs.Inner.Objects.{held_of, object_at, object_in, IsStore}
 use Rattle.object_store.proofs.Counting.{IsFresh, joined_count}

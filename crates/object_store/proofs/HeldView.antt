@@ -1,7 +1,7 @@
 -- A map of objects, seen as the held pair: each look-up there is one of the object's.
-use Rattle.std.proofs.Common.{◌≡◌, ◌≢◌, ℕ, ◌+◌, ◌<◌, ◌≤◌, Bool, true, false, cond, ◌&&◌, List, [], ◌∷◌, ◌++◌, length, map, refl}
-use Rattle.std.proofs.Common.{sym, ap, subst, ◌∙◌, arith, Option, Some, None, eqb-true, option_map}
-use Rattle.std.specs.Prelude.{T, is_some, ◌==◌, unwrap_or, option_and_then, nat_le, if◌then◌else◌}
+use Rattle.std.proofs.Common.{◌≡◌, ℕ, ◌≤◌, Bool, true, false, cond, ◌&&◌, List, [], ◌∷◌, ◌++◌, map, refl}
+use Rattle.std.proofs.Common.{sym, ap, ◌∙◌, arith, Option, Some, None, eqb-true, option_map}
+use Rattle.std.specs.Prelude.{T, is_some, ◌==◌, unwrap_or, option_and_then, nat_le}
 use Rattle.std.specs.Option.{option_or}
 use Rattle.std.specs.Ordering.{nat_cmp, eq_by_cmp}
 use Rattle.std.specs.Cmp.{nat_cmp_total}
@@ -11,9 +11,8 @@ use Rattle.std.specs.FinMap.Entries.{below_all, is_sorted}
 use Rattle.std.proofs.lemmas.Bool.Decides.{nat_tests}
 use Rattle.oti_blocks.specs.Partition.{ObjectInformation, encoding_at, blocks, size_at}
 use Rattle.alc_packet.specs.Packet.{SymbolPacket, full}
-use Rattle.wire_bytes.specs.Below.{count_below}
 use Rattle.wire_bytes.proofs.Public.{count_same, all_same}
-use Rattle.object_store.specs.Held.{Held, Place, place, place_cmp, place_of, row_at, is_held, symbols_held, joined, nothing_held}
+use Rattle.object_store.specs.Held.{Place, place, place_cmp, place_of, row_at, is_held, symbols_held, joined, nothing_held}
 use Rattle.object_store.specs.Ready.{is_block_ready, is_ready, sources_held}
 use Rattle.object_store.specs.Inner.BlockHeld.{BlockHeld, has_row}
 use Rattle.object_store.specs.Inner.ObjectHeld.{ObjectHeld, new_object, unopened, block_at, object_row, symbols_in, sources_at, is_block_done, is_done, with_packet}

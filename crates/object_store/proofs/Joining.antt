@@ -1,17 +1,17 @@
 -- The source rows of an object's blocks, one block after another.
-use Rattle.std.proofs.Common.{◌≡◌, ◌≢◌, ℕ, zero, suc, ◌+◌, ◌-◌, ◌*◌, ◌<◌, ◌≤◌, Bool, true, false, List, [], ◌∷◌, ◌++◌, length}
-use Rattle.std.proofs.Common.{take, drop, refl, sym, ap, subst, ◌∙◌, arith, Option, Some, None, eqb-true}
+use Rattle.std.proofs.Common.{◌≡◌, ℕ, zero, suc, ◌+◌, ◌*◌, ◌<◌, ◌≤◌, true, false, List, [], ◌∷◌, ◌++◌, length}
+use Rattle.std.proofs.Common.{take, drop, refl, sym, ap, subst, ◌∙◌, arith, Some, eqb-true}
 use Rattle.std.specs.Prelude.{◌==◌, nat_le}
 use Rattle.std.specs.FinMap.{get}
 use Rattle.std.proofs.lemmas.List.{take-append-le, drop-append-le, drop_at, length-drop, length-append}
 use Rattle.std.proofs.lemmas.Nat.{mul-le}
 use Rattle.std.proofs.lemmas.Bool.Decides.{nat_tests}
-use Rattle.oti_blocks.specs.Partition.{ObjectInformation, IsSound, sources, blocks, size_at, start_at}
+use Rattle.oti_blocks.specs.Partition.{IsSound, sources, blocks, size_at, start_at}
 use Rattle.oti_blocks.proofs.Public.{size_bounds, start-next, start_last, block_end, ends_before, sources_bounds}
 use Rattle.wire_bytes.proofs.Public.{passes_below}
 use Rattle.rs_code.specs.SourceRows.{cut, IsSymbolRow}
 use Rattle.object_store.specs.Inner.BlockHeld.{BlockHeld, is_full, held_in, IsSource}
-use Rattle.object_store.specs.Inner.ObjectHeld.{ObjectHeld, unopened, block_at, object_row, symbols_in, is_block_done, is_done, IsShaped, AreRowsBelow}
+use Rattle.object_store.specs.Inner.ObjectHeld.{ObjectHeld, unopened, block_at, object_row, is_block_done, is_done, IsShaped, AreRowsBelow}
 use Rattle.object_store.proofs.WithPacket.{held_is_symbols, none_in}
 
 -- rows cut from the front of a longer list

@@ -1,5 +1,5 @@
 -- The verdict, from what the packet's object says of it.
-use Rattle.std.proofs.Common.{◌≡◌, ℕ, ◌+◌, ◌<◌, ◌≤◌, Bool, true, false, List, refl, sym, ap, subst, ◌∙◌, arith, Option, Some, None, option_map}
+use Rattle.std.proofs.Common.{◌≡◌, ℕ, ◌+◌, ◌≤◌, Bool, true, false, List, refl, sym, ap, subst, ◌∙◌, arith, Option, Some, None, option_map}
 use Rattle.std.specs.Prelude.{is_some, ◌==◌, nat_le, nat_lt, if◌then◌else◌, unwrap_or}
 use Rattle.std.specs.Str.{bytes_eq}
 use Rattle.std.specs.Ordering.{nat_cmp}
@@ -8,7 +8,6 @@ use Rattle.std.proofs.lemmas.Bool.Decides.{nat_tests}
 use Rattle.oti_blocks.specs.Partition.{ObjectInformation, size_at}
 use Rattle.oti_blocks.proofs.Public.{size_bounds}
 use Rattle.alc_packet.specs.Packet.{SymbolPacket, IsPacket, full}
-use Rattle.object_store.specs.declared.judgement.Judgement.{Judgement}
 use Rattle.object_store.specs.declared.judgement.Judgement.TheVariants.{Joins, Stays}
 use Rattle.object_store.specs.declared.kept.Kept.{Kept}
 use Rattle.object_store.specs.declared.kept.Kept.TheVariants.{Repeat, Spare, OtiDiffers, SymbolDiffers, OverBudget}
@@ -16,11 +15,10 @@ use Rattle.object_store.specs.declared.finding.Finding.{Finding}
 use Rattle.object_store.specs.declared.finding.Finding.TheVariants.{Same, Differs, Full, Wanting}
 use Rattle.object_store.specs.Held.{Held, place_of, row_at, symbols_held, same_information, first_difference, joined}
 use Rattle.object_store.specs.Count.{byte_count, charge}
-use Rattle.object_store.specs.Ready.{is_block_ready}
-use Rattle.object_store.specs.Verdict.{verdict, verdict_on_object, verdict_on_row, verdict_on_fresh, is_new, new_in}
+use Rattle.object_store.specs.Verdict.{verdict, verdict_on_object, verdict_on_row, is_new, new_in}
 use Rattle.object_store.specs.Inner.BlockHeld.{BlockHeld, finding_on}
 use Rattle.object_store.specs.Inner.ObjectHeld.{ObjectHeld, new_object, unopened, block_at, object_row, symbols_in, finding_at}
-use Rattle.object_store.specs.Inner.Objects.{held_of, object_at}
+use Rattle.object_store.specs.Inner.Objects.{held_of}
 use Rattle.object_store.specs.Inner.Judged.{by_budget, by_finding, judged_in, IsJudged}
 use Rattle.object_store.proofs.Verdicts.{same_is_equal}
 use Rattle.object_store.proofs.WithPacket.{none_in}

@@ -17,6 +17,7 @@ pub mod Rising
 pub mod Sets
 pub mod WholeHas
 pub mod Differences
+pub mod SymbolRows
 pub mod Blocks
 pub mod Additions
 pub mod WithPacket

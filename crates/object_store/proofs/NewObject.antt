@@ -1,14 +1,13 @@
 -- An object of which nothing is held.
-use Rattle.std.proofs.Common.{◌≡◌, ◌<◌, ◌≤◌, ◌+◌, ℕ, Bool, true, false, List, [], refl, sym, ap, subst, ◌∙◌, arith}
+use Rattle.std.proofs.Common.{◌≡◌, ◌<◌, ◌≤◌, ℕ, true, false, List, [], refl, sym, ap, subst, ◌∙◌, arith}
 use Rattle.std.specs.Prelude.{nat_le, unwrap_or}
 use Rattle.std.specs.Ordering.{nat_cmp}
-use Rattle.std.specs.FinMap.{empty, get-empty}
+use Rattle.std.specs.FinMap.{get-empty}
 use Rattle.std.proofs.lemmas.Bool.Decides.{nat_tests}
 use Rattle.oti_blocks.specs.Partition.{ObjectInformation, IsSound, blocks, size_at}
 use Rattle.oti_blocks.proofs.Public.{size_bounds}
-use Rattle.wire_bytes.specs.Below.{count_below}
 use Rattle.wire_bytes.proofs.Public.{count_none, not_all_below}
-use Rattle.object_store.specs.Inner.ObjectHeld.{ObjectHeld, new_object, unopened, block_at, is_block_done, is_done, IsShaped}
+use Rattle.object_store.specs.Inner.ObjectHeld.{new_object, unopened, block_at, is_block_done, IsShaped}
 use Rattle.object_store.specs.Inner.ObjectParts.{IsObject}
 use Rattle.object_store.proofs.WithPacket.{none_in}
 

@@ -1,8 +1,8 @@
 -- An object in memory with one more symbol.
-use Rattle.std.proofs.Common.{◌≡◌, ◌<◌, ◌≤◌, ◌+◌, ◌-◌, ◌*◌, ℕ, Bool, true, false, List, [], refl, sym, ap, subst, ◌∙◌, arith, Some}
+use Rattle.std.proofs.Common.{◌≡◌, ◌≤◌, ◌+◌, ◌-◌, ◌*◌, ℕ, Bool, true, false, List, [], sym, ap, subst, ◌∙◌, Some}
 use Rattle.std.specs.Prelude.{if◌then◌else◌, unwrap_or, nat_le}
 use Rattle.std.specs.Ordering.{nat_cmp}
-use Rattle.std.specs.FinMap.{FinMap, insert}
+use Rattle.std.specs.FinMap.{insert}
 use Rattle.std.specs.BTreeMap.{BTreeMap, Updates}
 use Rattle.std.specs.BTreeMap as tree
 use Rattle.oti_blocks.specs.Partition.{ObjectInformation, blocks, size_at}
@@ -11,7 +11,7 @@ use Rattle.wire_bytes.specs.Below.{count_below}
 use Rattle.wire_bytes.specs.Bytes.{zero_filled}
 use Rattle.wire_bytes.proofs.Public.{not_all_below}
 use Rattle.object_store.specs.Inner.BlockHeld.{BlockHeld, has_row, is_full, held_in, sources_in, with_row, with_symbol, solving_steps}
-use Rattle.object_store.specs.Inner.ObjectHeld.{ObjectHeld, unopened, block_at, is_block_done, is_done, with_packet, steps_at, Joins, IsShaped, AreRowsBelow}
+use Rattle.object_store.specs.Inner.ObjectHeld.{ObjectHeld, unopened, block_at, is_block_done, is_done, with_packet, steps_at, Joins, AreRowsBelow}
 use Rattle.object_store.specs.Inner.ObjectParts.{map_of, object_of, part_at, part_with, MayJoin, AreShaped, IsObject}
 use Rattle.object_store.proofs.WithPacket.{map_updated, block_in_tree, held_is_symbols, may_join, block_here, filled_is_full}
 use Rattle.object_store.proofs.WithPacket.{shaped_with, waiting_with, wasnt_done, someone_waits, block_within}

@@ -1,11 +1,10 @@
 -- What a store tells of an object.
-use Rattle.std.proofs.Common.{◌≡◌, ℕ, ◌<◌, Bool, true, false, List, take, refl, sym, ap, subst, ◌∙◌, Option, Some, None, option_map, Bor, ◌*◌}
+use Rattle.std.proofs.Common.{◌≡◌, ℕ, false, List, refl, sym, ap, ◌∙◌, Option, Some, None, option_map, Bor, ◌*◌}
 use Rattle.std.specs.Prelude.{unwrap_or, IfNone, IfSome}
 use Rattle.std.specs.Ordering.{nat_cmp}
 use Rattle.std.specs.FinMap.{FinMap, get}
-use Rattle.oti_blocks.specs.Partition.{ObjectInformation, IsSound, blocks}
+use Rattle.oti_blocks.specs.Partition.{IsSound, blocks}
 use Rattle.oti_blocks.proofs.Public.{start_last}
-use Rattle.object_store.specs.Held.{Held, symbols_held}
 use Rattle.object_store.specs.HeldPair.{IsHeldPair}
 use Rattle.object_store.specs.Whole.{whole, bytes_when_ready, AreSourceRows}
 use Rattle.object_store.specs.Store.{held_in_block}

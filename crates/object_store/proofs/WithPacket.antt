@@ -1,24 +1,23 @@
 -- An object with one more symbol.
-use Rattle.std.proofs.Common.{◌≡◌, ◌≢◌, ℕ, zero, suc, ◌+◌, ◌-◌, ◌*◌, ◌<◌, ◌≤◌, Bool, true, false, cond, ◌&&◌, List, [], ◌∷◌, ◌++◌}
-use Rattle.std.proofs.Common.{length, refl, sym, ap, subst, ◌∙◌, arith, Option, Some, None, eqb-true, ◌⊎◌, inl, inr}
+use Rattle.std.proofs.Common.{◌≡◌, ◌≢◌, ℕ, zero, suc, ◌+◌, ◌-◌, ◌<◌, ◌≤◌, Bool, true, false, cond, List, [], ◌∷◌}
+use Rattle.std.proofs.Common.{length, refl, sym, ap, subst, ◌∙◌, arith, Option, Some, None, eqb-true, inl, inr}
 use Rattle.std.specs.Prelude.{if◌then◌else◌, is_some, ◌==◌, nat_le, unwrap_or}
 use Rattle.std.specs.Ordering.{nat_cmp, eq_by_cmp}
-use Rattle.std.specs.Cmp.{nat_cmp_total, eq_by_cmp_equiv}
-use Rattle.std.specs.FinMap.{FinMap, empty, get, insert, find, get-insert, get-empty, get-from_entries, same_map, nat_cmp-IsAntisymmetric}
+use Rattle.std.specs.Cmp.{nat_cmp_total}
+use Rattle.std.specs.FinMap.{empty, get, insert, find, get-insert, get-empty, get-from_entries, same_map, nat_cmp-IsAntisymmetric}
 use Rattle.std.specs.Map.{lookup}
 use Rattle.std.specs.BTreeMap.{BTreeMap, is_at}
 use Rattle.std.specs.BTreeMap as tree
 use Rattle.std.proofs.lemmas.Bool.Decides.{nat_tests}
-use Rattle.oti_blocks.specs.Partition.{ObjectInformation, IsSound, blocks, size_at, encoding_at, last_length}
+use Rattle.oti_blocks.specs.Partition.{ObjectInformation, blocks, size_at, encoding_at}
 use Rattle.oti_blocks.proofs.Public.{size_bounds, last_length_bounds}
-use Rattle.alc_packet.specs.Packet.{SymbolPacket, IsPacket, HasWholeSymbol, HasCutSymbol, full}
+use Rattle.alc_packet.specs.Packet.{SymbolPacket, IsPacket, full}
 use Rattle.wire_bytes.specs.Below.{count_below, all_below}
 use Rattle.wire_bytes.specs.Bytes.{zero_filled}
 use Rattle.wire_bytes.proofs.Public.{count_is_sum, sum_with, count_none, count_same, count_most, all_pass, passes_below}
-use Rattle.object_store.specs.declared.finding.Finding.{Finding}
 use Rattle.object_store.specs.declared.finding.Finding.TheVariants.{Full, Wanting}
 use Rattle.object_store.specs.Inner.BlockHeld.{BlockHeld, has_row, held_in, with_row, finding_in, finding_on}
-use Rattle.object_store.specs.Inner.ObjectHeld.{ObjectHeld, new_object, unopened, block_at, object_row, symbols_in, is_block_done}
+use Rattle.object_store.specs.Inner.ObjectHeld.{ObjectHeld, unopened, block_at, object_row, symbols_in, is_block_done}
 use Rattle.object_store.specs.Inner.ObjectHeld.{is_done, with_packet, finding_at, Joins, IsShaped}
 use Rattle.object_store.specs.Inner.ObjectParts.{map_of, AreShaped, MayJoin}
 use Rattle.object_store.proofs.Places.{tied_numbers}

@@ -1,21 +1,22 @@
 //! A source block of which symbols are held (RFC 5510, section 8).
-ghost use Rattle.std.specs.Prelude.{◌≡◌, ◌≤◌, ◌<◌, ◌+◌, ◌-◌, ◌*◌, ◌^◌, ◌++◌, ◌∷◌, ◌==◌, [], false, true, length};
-ghost use Rattle.std.specs.Prelude.{min, take, not, nat_le, if◌then◌else◌, vec_len, Some, None, IfOk, IfSome, OnOk, OnErr, option_map, slice_index};
+ghost use Rattle.std.specs.Prelude.{◌≡◌, ◌≤◌, ◌<◌, ◌+◌, ◌-◌, ◌*◌, ◌^◌, ◌++◌, ◌∷◌, ◌==◌, [], true, length};
+ghost use Rattle.std.specs.Prelude.{min, take, nat_le, if◌then◌else◌, vec_len, Some, None, IfSome, OnOk, OnErr};
 ghost use Rattle.std.specs.FinMap.{get};
-ghost use Rattle.std.specs.List.{position_from, zip};
-ghost use Rattle.wire_bytes.specs.Bytes.{zero_filled};
+ghost use Rattle.std.specs.List.{position_from};
+ghost use Rattle.wire_bytes.specs.Bytes.{AreBytes, zero_filled};
 ghost use Rattle.rs_code.specs.Weights.{ArePlaces};
-ghost use Rattle.rs_solve.specs.Solution.{IsSolution};
 ghost use Rattle.object_store.specs.declared.finding.Finding.TheVariants.{Full, Wanting};
-ghost use Rattle.object_store.specs.Inner.BlockRows.{steps_when_full};
+ghost use Rattle.object_store.specs.Inner.BlockRows.{rows_held, steps_when_full};
 ghost use Rattle.object_store.specs.Inner.BlockHeld.{BlockHeld, no_rows, held_in, is_full, with_symbol, solving_steps, finding_in, IsSource};
 
+use crate::difference::{compared, row_difference, symbol_difference};
 use crate::finding::Finding;
 use rs_solve::{Steps, solve};
 use std::alloc::{AllocError, Global};
 use std::marker::Model;
 
-/// The first k distinct symbols of a block, in order of arrival, and its source rows once there are k.
+/// The places of the first k distinct symbols of a block, in order of arrival. `rows` has their rows in this order
+/// while there are fewer than k, and from the k-th on the source rows, of which any of them can be made again.
 #[derive(Drop)]
 pub struct Block {
     k: u8,
@@ -23,23 +24,22 @@ pub struct Block {
     size: u16,
     places: Vec<u8>,
     rows: Vec<u8>,
-    source: Vec<u8>,
 }
 
 impl Model for Block {
     ghost use Rattle.object_store.specs.declared.finding.Finding.TheVariants.{Full, Wanting};
     ghost use Rattle.object_store.specs.Inner.BlockRows.{steps_when_full};
     ghost use Rattle.object_store.specs.Inner.BlockHeld.{BlockHeld};
-    ghost use Rattle.object_store.specs.Inner.BlockRows.{rows_map, IsBlock};
+    ghost use Rattle.object_store.specs.Inner.BlockRows.{rows_map, rows_held, IsBlock};
     ghost use Rattle.object_store.specs.Inner.Codes.{block_code};
 
     ghost Value = { BlockHeld };
 
     ghost coded = { block_code };
 
-    ghost view = { λ a. record { k = a.k; n = a.n; size = a.size; rows = rows_map a.size a.places.items a.rows.items } };
+    ghost view = { λ a. record { k = a.k; n = a.n; size = a.size; rows = rows_map a.size a.places.items (rows_held a.k a.size a.places.items a.rows.items) } };
 
-    ghost invariant = { λ a. IsBlock a.k a.n a.size a.places.items a.rows.items a.source.items };
+    ghost invariant = { λ a. IsBlock a.k a.n a.size a.places.items a.rows.items };
 }
 
 impl Block {
@@ -56,7 +56,6 @@ impl Block {
             size,
             places: Vec::new(alloc),
             rows: Vec::new(alloc),
-            source: Vec::new(alloc),
         }
     }
 
@@ -76,30 +75,20 @@ impl Block {
         self.k <= self.len()
     }
 
-    /// The row of the symbol at a place, if it is held.
-    fn row(&self, esi: u8) -> Option<&[u8]>
-        ensures row { option_map (λ r. r.now) result ≡ get self.now.rows esi }
-        ensures long { IfSome result (λ r. length r.now ≡ self.now.size) }
-        ensures fits { IfSome result (λ r. length r.now < 2 ^ 16) }
-    {
-        let size = usize::from(self.size);
-        match position(self.places.as_slice(), esi) {
-            Some(at) => Some(&self.rows.as_slice()[at * size..at * size + size]),
-            None => None,
-        }
-    }
-
     /// What the symbol meets: what is held at its place, or how many symbols the block has.
     pub fn find(&self, esi: u8, symbol: &[u8]) -> Finding
         requires { length symbol.now ≤ self.now.size }
         ensures { result ≡ finding_in self.now esi symbol.now }
     {
-        match self.row(esi) {
-            Some(row) => match first_difference(row, symbol) {
-                Some(at) => Finding::Differs(at),
-                None => Finding::Same,
-            },
-            None => wanting(self.len(), self.k),
+        let Some(at) = position(self.places.as_slice(), esi) else {
+            return wanting(self.len(), self.k);
+        };
+        let rows = self.rows.as_slice();
+        if self.is_full() {
+            compared(symbol_difference(self.k, self.size, rows, esi, symbol))
+        } else {
+            let size = usize::from(self.size);
+            compared(row_difference(&rows[at * size..at * size + size], symbol))
         }
     }
 
@@ -120,18 +109,8 @@ impl Block {
     {
         let size = usize::from(self.size);
         append(&mut self.places, &mut self.rows, size, esi, symbol)?;
-        match source_when_full(
-            *self.places.allocator(),
-            self.k,
-            size,
-            self.places.as_slice(),
-            self.rows.as_slice(),
-            steps,
-        ) {
-            Ok(source) => {
-                self.source = source;
-                Ok(())
-            }
+        match solve_when_full(self.k, size, self.places.as_slice(), &mut self.rows, steps) {
+            Ok(()) => Ok(()),
             Err(error) => {
                 take_back(&mut self.places, &mut self.rows, size);
                 Err(error)
@@ -144,7 +123,7 @@ impl Block {
         requires { is_full self.now ≡ true }
         ensures { IsSource self.now result.now }
     {
-        self.source.as_slice()
+        all_bytes(self.rows.as_slice())
     }
 }
 
@@ -194,50 +173,37 @@ fn take_back(places: &mut Vec<u8>, rows: &mut Vec<u8>, size: usize)
     rows.truncate(rows.len() - size);
 }
 
-/// The source rows, if there are k rows, and else none.
-fn source_when_full<L>(
-    alloc: Global,
+/// Puts the source rows in place of k rows. Fewer rows stay.
+fn solve_when_full<L>(
     k: u8,
     size: usize,
     places: &[u8],
-    rows: &[u8],
+    rows: &mut Vec<u8>,
     steps: &mut Steps<L>,
-) -> Result<Vec<u8>, AllocError>
+) -> Result<(), AllocError>
     requires places { ArePlaces places.now }
     requires size { 1 ≤ size }
-    requires rows { length rows.now ≡ length places.now * size }
-    ensures solved { IfOk result (λ v. length places.now ≡ k → IsSolution size places.now rows.now v.items) }
+    requires rows { length rows.old.items ≡ length places.now * size }
+    ensures held { OnOk result (rows_held k size places.now rows.new.items ≡ rows.old.items) }
+    ensures whole { OnOk result (length rows.new.items ≡ length rows.old.items) }
+    ensures err { OnErr result (rows.new.items ≡ rows.old.items) }
     ensures count { OnOk result (steps.new.count ≡ min (steps.old.count + steps_when_full k places.now) (2 ^ 64 - 1)) }
     ensures ledger { steps.new.ledger ≡ steps.old.ledger }
     ensures uncounted { OnErr result (steps.new.count ≡ steps.old.count) }
 {
     let _before = steps.count();
     if places.len() == usize::from(k) {
-        solve(alloc, size, places, rows, steps)
-    } else {
-        Ok(Vec::new(alloc))
+        *rows = solve(*rows.allocator(), size, places, rows.as_slice(), steps)?;
     }
+    Ok(())
 }
 
-/// The first byte in which a row and a symbol with zeros behind it differ.
-fn first_difference(row: &[u8], symbol: &[u8]) -> Option<u16>
-    requires symbol { length symbol.now ≤ length row.now }
-    requires row { length row.now < 2 ^ 16 }
-    ensures { result ≡ position_from (λ p. not (p.0 == p.1)) 0 (zip row.now (zero_filled (length row.now) symbol.now)) }
+/// The same bytes.
+fn all_bytes(bytes: &[u8]) -> &[u8]
+    ensures same { result.now ≡ bytes.now }
+    ensures sound { AreBytes bytes.now }
 {
-    for at in 0..row.len() {
-        if row[at] != byte_at(symbol, at) {
-            return Some(at as u16);
-        }
-    }
-    None
-}
-
-/// The byte of a symbol with zeros behind it.
-fn byte_at(symbol: &[u8], at: usize) -> u8
-    ensures { result ≡ slice_index symbol.now at }
-{
-    if at < symbol.len() { symbol[at] } else { 0 }
+    bytes
 }
 
 /// Where a place stands among the places.

@@ -2,6 +2,7 @@
 #![tactic(auto)]
 
 mod block;
+mod difference;
 mod finding;
 mod judgement;
 mod kept;

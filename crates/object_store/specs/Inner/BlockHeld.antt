@@ -49,6 +49,11 @@ abbrev pub finding_on : ℕ → ℕ → List ℕ → Option (List ℕ) → Findi
 finding_on k held row (Some r) = if bytes_eq r row then Same else Differs (first_difference r row)
 finding_on k held row None = if nat_le k held then Full else Wanting held
 
+-- the same from the first byte in which the row at the place and the symbol differ
+abbrev pub finding_of : Option ℕ → Finding
+finding_of None = Same
+finding_of (Some at) = Differs at
+
 abbrev pub finding_in : BlockHeld → ℕ → List ℕ → Finding
 finding_in h j symbol = finding_on h.k (held_in h) (zero_filled h.size symbol) (get h.rows j)
 

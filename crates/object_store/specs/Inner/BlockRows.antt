@@ -1,9 +1,12 @@
 -- How a block stands in memory: its places in order of arrival, and a row for each.
-use Rattle.std.specs.Prelude.{◌≡◌, ℕ, ◌<◌, ◌≤◌, ◌*◌, ◌==◌, if◌then◌else◌, List, [], ◌∷◌, length, take, drop, All}
+use Rattle.std.specs.Prelude.{◌≡◌, ℕ, ◌<◌, ◌≤◌, ◌*◌, ◌==◌, if◌then◌else◌, List, [], ◌∷◌, ◌++◌, length, take, drop, All}
 use Rattle.std.specs.Ordering.{nat_cmp}
 use Rattle.std.specs.FinMap.{FinMap, from_entries}
-use Rattle.gf256.specs.Polynomial.{AreDifferent}
-use Rattle.rs_solve.specs.Solution.{IsSolution, missing}
+use Rattle.wire_bytes.specs.Below.{list_below}
+use Rattle.gf256.specs.Polynomial.{AreDifferent, power}
+use Rattle.rs_code.specs.Interpolation.{weighed}
+use Rattle.rs_code.specs.SourceRows.{cut, column}
+use Rattle.rs_solve.specs.Solution.{missing}
 
 -- each place with its row
 abbrev pub row_entries : ℕ → List ℕ → List ℕ → List (ℕ × List ℕ)
@@ -13,8 +16,22 @@ row_entries size (p ∷ places) rows = (p, take size rows) ∷ row_entries size 
 unfoldable pub rows_map : ℕ → List ℕ → List ℕ → FinMap nat_cmp (List ℕ)
 rows_map size places rows = from_entries (row_entries size places rows)
 
--- what holds of a block in memory: once there are k rows, `source` is what they were solved to
-pub record IsBlock (k n size : ℕ) (places rows source : List ℕ) : Type 0 where
+-- the row of symbol j of the k source rows in front of these bytes: at each place the value at alpha^j of the polynomial
+-- through the column
+unfoldable pub symbol_row : ℕ → ℕ → List ℕ → ℕ → List ℕ
+symbol_row k size bytes j = list_below size (λ at. weighed power k (column (cut k size bytes) at) k (power j))
+
+-- the rows of the symbols at these places, one after the other
+unfoldable pub symbols_at : ℕ → ℕ → List ℕ → List ℕ → List ℕ
+symbols_at k size bytes [] = []
+symbols_at k size bytes (p ∷ places) = symbol_row k size bytes p ++ symbols_at k size bytes places
+
+-- the rows at the places: these bytes, while there are fewer than k, and else the symbols of these source rows
+unfoldable pub rows_held : ℕ → ℕ → List ℕ → List ℕ → List ℕ
+rows_held k size places bytes = if length places == k then symbols_at k size bytes places else bytes
+
+-- what holds of a block in memory: of its places and its rows, or its source rows
+pub record IsBlock (k n size : ℕ) (places bytes : List ℕ) : Type 0 where
   pub some : 1 ≤ k
   pub wide : 1 ≤ size
   pub order : k ≤ n
@@ -22,8 +39,7 @@ pub record IsBlock (k n size : ℕ) (places rows source : List ℕ) : Type 0 whe
   pub most : length places ≤ k
   pub below : All (λ p. p < n) places
   pub different : AreDifferent places
-  pub whole : length rows ≡ length places * size
-  pub solved : length places ≡ k → IsSolution size places rows source
+  pub whole : length bytes ≡ length places * size
 
 -- the row steps of solving k places
 abbrev pub steps_when_full : ℕ → List ℕ → ℕ

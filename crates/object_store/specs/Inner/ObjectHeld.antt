@@ -1,5 +1,5 @@
 -- What is held of one object.
-use Rattle.std.specs.Prelude.{◌≡◌, ℕ, ◌<◌, ◌≤◌, ◌*◌, ◌-◌, if◌then◌else◌, nat_le, Bool, true, List, Option, Some, None, length, take, drop, is_some, unwrap_or}
+use Rattle.std.specs.Prelude.{◌≡◌, ℕ, ◌<◌, ◌*◌, ◌-◌, if◌then◌else◌, nat_le, Bool, true, List, Option, Some, None, length, take, drop, unwrap_or}
 use Rattle.std.specs.Ordering.{nat_cmp}
 use Rattle.std.specs.FinMap.{FinMap, empty, get, insert}
 use Rattle.wire_bytes.specs.Below.{count_below, all_below}

@@ -1,6 +1,6 @@
 -- How an object stands in memory: its open blocks in a tree, how many blocks wait for symbols, and its source rows
 -- once none does.
-use Rattle.std.specs.Prelude.{◌≡◌, ℕ, ◌<◌, ◌≤◌, ◌+◌, Bool, true, false, List, [], Option, None, length, unwrap_or}
+use Rattle.std.specs.Prelude.{◌≡◌, ℕ, ◌<◌, ◌≤◌, ◌+◌, true, false, List, [], None, length, unwrap_or}
 use Rattle.std.specs.Ordering.{nat_cmp}
 use Rattle.std.specs.FinMap.{FinMap, get as get_in, from_entries}
 use Rattle.std.specs.BTreeMap.{BTreeMap, get}

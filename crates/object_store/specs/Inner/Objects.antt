@@ -11,7 +11,6 @@ use Rattle.object_store.specs.HeldPair.{IsHeldPair}
 use Rattle.object_store.specs.Store.{IsListed}
 use Rattle.object_store.specs.Inner.BlockHeld.{BlockHeld}
 use Rattle.object_store.specs.Inner.ObjectHeld.{ObjectHeld, new_object}
-use Rattle.object_store.specs.Inner.ObjectParts.{map_of}
 
 -- the rows of each entry, one entry after the other
 abbrev pub flat : {V : Type 0} → (ℕ → V → List (Place × List ℕ)) → List (ℕ × V) → List (Place × List ℕ)

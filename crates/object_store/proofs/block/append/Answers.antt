@@ -1,4 +1,4 @@
-use Rattle.std.proofs.Common.{ap, sym, subst, ◌∙◌, List, ℕ, ◌≡◌, ◌+◌, ◌++◌, ◌-◌, length, take, replicate, arith}
+use Rattle.std.proofs.Common.{ap, ◌∙◌, List, ℕ, ◌≡◌, ◌+◌, ◌++◌, ◌-◌, length, take, replicate, arith}
 use Rattle.object_store.proofs.Blocks.{filled_up}
 use Rattle.object_store.proofs.block.append.Goals as goal
 

@@ -1,8 +1,8 @@
-use Rattle.std.proofs.Common.{◌≡◌, ◌==◌, ◌<◌, ◌≤◌, ◌+◌, ℕ, Bool, Option, List, not, Some, None, cond, length, get_or, drop, sym, ap, ◌∙◌, arith, true, false}
+use Rattle.std.proofs.Common.{◌≡◌, ◌==◌, ◌<◌, ◌≤◌, ◌+◌, ℕ, Bool, List, not, Some, cond, length, get_or, drop, sym, ap, ◌∙◌, arith, true, false}
 use Rattle.std.specs.List.{position_from}
 use Rattle.std.proofs.lemmas.Bool.Decides.{nat_tests}
 use Rattle.object_store.proofs.Differences.{next_pair, no_pair, differ, pairs}
-use Rattle.object_store.proofs.block.first_difference.Goals as goal
+use Rattle.object_store.proofs.difference.row_difference.Goals as goal
 
 -- a step, with what the test of the two bytes gave
 stepped : (row symbol : List ℕ) (at : ℕ) (b : Bool) → length symbol ≤ length row → at < length row → not (get_or row at 0 == get_or symbol at 0) ≡ b

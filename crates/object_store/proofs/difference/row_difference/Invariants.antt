@@ -1,7 +1,7 @@
 use Rattle.std.proofs.Common.{◌≡◌, ◌==◌, not, length, drop}
 use Rattle.std.specs.List.{position_from, zip}
 use Rattle.wire_bytes.specs.Bytes.{zero_filled}
-use Rattle.object_store.proofs.block.first_difference.Given as goal
+use Rattle.object_store.proofs.difference.row_difference.Given as goal
 
 abbrev pub invariant-loop-at : goal.invariant-loop-at
 invariant-loop-at l =

@@ -1,11 +1,11 @@
-use Rattle.std.proofs.Common.{◌≡◌, ◌≤◌, ◌<◌, ◌+◌, ◌*◌, ◌++◌, ℕ, List, true, length, sym, ap, subst, ◌∙◌, arith, unwrap_or, Vec, Global}
+use Rattle.std.proofs.Common.{◌≡◌, ◌<◌, ◌+◌, ℕ, List, sym, ap, subst, ◌∙◌, arith, unwrap_or, Vec, Global}
 use Rattle.std.specs.Prelude.{vec_capacity}
-use Rattle.oti_blocks.specs.Partition.{blocks, sources}
-use Rattle.object_store.specs.Inner.BlockHeld.{BlockHeld, is_full, IsSource}
-use Rattle.object_store.specs.Inner.ObjectHeld.{ObjectHeld, block_at, unopened, IsShaped, AreRowsBelow}
+use Rattle.oti_blocks.specs.Partition.{blocks}
+use Rattle.object_store.specs.Inner.BlockHeld.{is_full}
+use Rattle.object_store.specs.Inner.ObjectHeld.{block_at, unopened, IsShaped, AreRowsBelow}
 use Rattle.object_store.specs.Inner.ObjectParts.{object_of}
 use Rattle.object_store.proofs.WithPacket.{block_in_tree}
-use Rattle.object_store.proofs.Joining.{no_rows_below, rows_next, room_for_next, full_when_done, open_when_done}
+use Rattle.object_store.proofs.Joining.{rows_next, room_for_next, full_when_done, open_when_done}
 use Rattle.object_store.proofs.object.join.Goals as goal
 use Rattle.object_store.proofs.object.join.Goals.{in-Some, in-None}
 

@@ -1,4 +1,4 @@
-use Rattle.std.proofs.Common.{◌≡◌, ◌+◌, ◌<◌, ◌∙◌, ℕ, nat_eq, ap, sym, subst, arith}
+use Rattle.std.proofs.Common.{◌+◌, ◌∙◌, ℕ, nat_eq, ap, sym, subst, arith}
 use Rattle.oti_blocks.specs.Partition.{ObjectInformation, size_at}
 use Rattle.oti_blocks.proofs.Public.{size_bounds}
 use Rattle.alc_packet.specs.Packet.{SymbolPacket}

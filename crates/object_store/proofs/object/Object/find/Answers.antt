@@ -1,4 +1,4 @@
-use Rattle.std.proofs.Common.{◌≡◌, ◌≤◌, ◌∙◌, ℕ, length, sym, ap, arith, unwrap_or}
+use Rattle.std.proofs.Common.{◌≡◌, ◌∙◌, sym, ap, arith, unwrap_or}
 use Rattle.oti_blocks.specs.Partition.{ObjectInformation}
 use Rattle.alc_packet.specs.Packet.{SymbolPacket}
 use Rattle.object_store.specs.Inner.BlockHeld.{BlockHeld, finding_in}

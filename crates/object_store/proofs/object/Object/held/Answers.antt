@@ -1,5 +1,5 @@
-use Rattle.std.proofs.Common.{◌≡◌, ◌∙◌, Some, None, sym, ap, unwrap_or}
-use Rattle.object_store.specs.Inner.BlockHeld.{BlockHeld, held_in}
+use Rattle.std.proofs.Common.{◌≡◌, ◌∙◌, sym, ap, unwrap_or}
+use Rattle.object_store.specs.Inner.BlockHeld.{held_in}
 use Rattle.object_store.specs.Inner.ObjectHeld.{ObjectHeld, block_at, unopened, symbols_in}
 use Rattle.object_store.specs.Inner.ObjectParts.{object_of}
 use Rattle.object_store.proofs.WithPacket.{block_in_tree, held_is_symbols, none_in}

@@ -1,8 +1,7 @@
-use Rattle.std.proofs.Common.{rules, ◌≡◌, ◌≤◌, ◌∙◌, ap, sym, subst, ℕ, List}
+use Rattle.std.proofs.Common.{rules, ◌≤◌, ap, sym, subst, ℕ}
 use Rattle.std.specs.Ordering.{nat_cmp}
 use Rattle.std.specs.FinMap.{FinMap}
 use Rattle.object_store.specs.Inner.BlockHeld.{BlockHeld}
-use Rattle.object_store.specs.Inner.ObjectHeld.{ObjectHeld}
 use Rattle.object_store.specs.Inner.ObjectParts.{IsObject}
 use Rattle.object_store.proofs.WithPacket.{map_none}
 use Rattle.object_store.proofs.NewObject.{new_object_holds}

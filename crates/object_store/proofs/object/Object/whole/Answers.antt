@@ -1,8 +1,8 @@
-use Rattle.std.proofs.Common.{◌≡◌, ◌≤◌, ◌+◌, ◌∙◌, ℕ, List, Bool, true, false, length, take, sym, ap, subst, arith}
+use Rattle.std.proofs.Common.{◌≡◌, ◌∙◌, ℕ, true, false, length, take, sym, ap, subst, arith}
 use Rattle.std.specs.Prelude.{◌==◌}
 use Rattle.std.proofs.lemmas.List.{length-take}
 use Rattle.std.proofs.lemmas.Bool.Decides.{nat_tests}
-use Rattle.oti_blocks.specs.Partition.{ObjectInformation, blocks}
+use Rattle.oti_blocks.specs.Partition.{blocks}
 use Rattle.object_store.specs.Inner.ObjectHeld.{ObjectHeld, is_done, is_block_done, IsWholeOf}
 use Rattle.object_store.specs.Inner.ObjectParts.{object_of}
 use Rattle.object_store.proofs.WithPacket.{none_waits}

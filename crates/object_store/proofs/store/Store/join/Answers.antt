@@ -1,13 +1,13 @@
-use Rattle.std.proofs.Common.{◌≡◌, ◌+◌, ◌≤◌, ◌∙◌, ◌++◌, ◌∷◌, [], ℕ, List, min, ap, sym, subst, arith}
+use Rattle.std.proofs.Common.{◌+◌, ◌∙◌, ◌++◌, ◌∷◌, [], ℕ, List, min, ap, sym, subst}
 use Rattle.std.specs.Prelude.{if◌then◌else◌}
 use Rattle.object_store.specs.Held.{Held, joined}
-use Rattle.object_store.specs.Count.{byte_count, charge}
+use Rattle.object_store.specs.Count.{charge}
 use Rattle.object_store.specs.Verdict.{verdict, is_new, row_steps}
 use Rattle.object_store.specs.Store as specs
 use Rattle.object_store.specs.Inner.ObjectParts.{map_of}
 use Rattle.object_store.specs.Inner.Objects.{held_of, IsStore}
 use Rattle.object_store.proofs.WithPacket.{map_same}
-use Rattle.object_store.proofs.Entering.{has_room, store_with, within_budget}
+use Rattle.object_store.proofs.Entering.{has_room, store_with}
 use Rattle.std.proofs.lemmas.Result.{err_from_is_err_and}
 use Rattle.object_store.proofs.store.Store.join.Goals as goal
 

@@ -1,4 +1,4 @@
-use Rattle.std.proofs.Common.{◌≡◌, ◌∙◌, ap, sym, Some}
+use Rattle.std.proofs.Common.{◌∙◌, ap, sym, Some}
 use Rattle.std.specs.FinMap.{get}
 use Rattle.oti_blocks.specs.Partition.{ObjectInformation}
 use Rattle.object_store.specs.Store as specs

@@ -1,6 +1,5 @@
-use Rattle.std.proofs.Common.{rules, ◌≡◌, ◌≤◌, ◌∙◌, ℕ, List, [], ap, sym, subst, arith}
+use Rattle.std.proofs.Common.{rules, ◌≡◌, ◌∙◌, ℕ, List, ap, sym, subst, arith}
 use Rattle.object_store.specs.Held.{Held, nothing_held}
-use Rattle.object_store.specs.Store as specs
 use Rattle.object_store.specs.Inner.ObjectParts.{map_of}
 use Rattle.object_store.specs.Inner.Objects.{held_of, IsStore}
 use Rattle.object_store.proofs.Nothing.{nothing_counted, nothing_listed_ready, nothing_pair}

@@ -1,4 +1,4 @@
-use Rattle.std.proofs.Common.{◌≡◌, ◌∙◌, ap, sym}
+use Rattle.std.proofs.Common.{◌∙◌, ap, sym}
 use Rattle.object_store.specs.Store as specs
 use Rattle.object_store.specs.Whole.{whole}
 use Rattle.object_store.specs.Inner.ObjectParts.{map_of}
