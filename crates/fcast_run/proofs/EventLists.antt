@@ -1,6 +1,6 @@
 -- What the watchers of a run are told.
 use Rattle.std.proofs.Common.{◌≡◌, ℕ, Bool, true, false, List, [], ◌∷◌, ◌++◌, ◌∙◌, refl, sym, ap, arith, Option, Some, None, append_assoc}
-use Rattle.std.specs.Prelude.{◌==◌, if◌then◌else◌, Result, Ok, Err}
+use Rattle.std.specs.Prelude.{◌==◌, if◌then◌else◌, option_map, Result, Ok, Err}
 use Rattle.std.specs.Bool.{Decides}
 use Rattle.std.specs.List.{fold}
 use Rattle.std.specs.Option.{option_eq}
@@ -23,9 +23,10 @@ use Rattle.receiver_core.specs.Classes.{taken_of, taken_reply, packet_under, pac
 use Rattle.receiver_core.specs.Receiver.{Announces}
 use Rattle.receiver_core.specs.declared.taken.Taken.{Taken}
 use Rattle.receiver_core.specs.declared.taken.Taken.TheVariants as taken
-use Rattle.fcast_run.specs.Events.{event_of, announcement, same_file, same_instance, other_number, events_with, events_from}
+use Rattle.fcast_run.specs.Events.{event_of, announcement, same_file, same_instance, other_instance, other_number, events_with, events_from}
+use Rattle.fcast_run.specs.Inner.Showings.{when_another}
 use Rattle.fcast_run.specs.Inner.Ranges.{HasPlace}
-use Rattle.fcast_run.proofs.Headline.{says_reply}
+use Rattle.fcast_run.proofs.Spelled.{says_reply}
 use Rattle.fcast_run.proofs.Taking.{held_more}
 
 -- ---- a packet's place in its block fits in one byte
@@ -48,7 +49,7 @@ placed_reply tsi budget held d (Ok (datagrams.Control t close)) says = placed_co
 pub placed : (tsi budget : ℕ) (held : Held) (d : List ℕ) → AreBytes d → HasPlace (taken_of tsi budget held d)
 placed tsi budget held d bytes = placed_reply tsi budget held d (reply d) (says_reply d bytes)
 
--- ---- the number that a settling answers is that of another instance
+-- ---- a settling answers the number of another instance
 
 option_decides : {A : Type 0} {E : A → A → Bool} → ((a b : A) → Decides (E a b) (a ≡ b)) → (x y : Option A) → Decides (option_eq E x y) (x ≡ y)
 option_decides each None None = (λ _. refl, λ _. refl)
@@ -72,17 +73,24 @@ instance_decides i j = Decides-like (same_instance i j)
     (Decides-and _ _ (Decides-eqb i.descriptor_toi j.descriptor_toi)
     (Decides-and _ _ (bytes_eq-Decides i.listed j.listed) (slice_eq-Decides file_decides i.files j.files _ refl))))
 
-chosen_number : (b : Bool) (old : Option Shown) (i : Shown) (number : ℕ) → Decides b (old ≡ Some i) → (Some i ≡ old → ⊥) → i.number ≡ number
-    → Some number ≡ (if b then None else Some i.number)
-chosen_number true old i number decides other is = absurd (other (sym (decides.0 refl)))
-chosen_number false old i number decides other is = ap Some (sym is)
+chosen_instance : (b : Bool) (old : Option Shown) (i : Shown) → Decides b (old ≡ Some i) → (Some i ≡ old → ⊥) → Some i ≡ (if b then None else Some i)
+chosen_instance true old i decides other = absurd (other (sym (decides.0 refl)))
+chosen_instance false old i decides other = refl
 
-pub number_is : (n : Option ℕ) (old new : Option Shown) → Announces n old new → n ≡ other_number old new
-number_is None old None announces = refl
-number_is None old (Some i) announces = rw ((option_decides instance_decides old (Some i)).1 (sym announces)) refl
-number_is (Some number) old None announces = absurd announces.1
-number_is (Some number) old (Some i) announces =
-    chosen_number (option_eq same_instance old (Some i)) old i number (option_decides instance_decides old (Some i)) announces.0 announces.1
+pub instance_is : (n : Option ℕ) (old new : Option Shown) → Announces n old new → when_another n new ≡ other_instance old new
+instance_is None old None announces = refl
+instance_is None old (Some i) announces = rw ((option_decides instance_decides old (Some i)).1 (sym announces)) refl
+instance_is (Some number) old None announces = absurd announces.1
+instance_is (Some number) old (Some i) announces =
+    chosen_instance (option_eq same_instance old (Some i)) old i (option_decides instance_decides old (Some i)) announces.0
+
+number_of_it : (n : Option ℕ) (old new : Option Shown) → Announces n old new → n ≡ option_map (λ i. i.number) (when_another n new)
+number_of_it None old new announces = refl
+number_of_it (Some number) old None announces = absurd announces.1
+number_of_it (Some number) old (Some i) announces = ap Some (sym announces.1)
+
+number_is : (n : Option ℕ) (old new : Option Shown) → Announces n old new → n ≡ other_number old new
+number_is n old new announces = number_of_it n old new announces ∙ ap (option_map (λ (i : Shown). i.number)) (instance_is n old new announces)
 
 -- ---- the events of a list, one datagram after another
 

@@ -1,18 +1,8 @@
 -- A run that reads a session's datagrams to their end installs the best instance of what the kept packets make ready.
-use Rattle.std.proofs.Common.{◌≡◌, ℕ, Bool, true, false, List, [], ◌∷◌, ◌++◌, ◌∙◌, refl, sym, ap, subst, map, Option, Some, None, inl, inr, append_assoc, eqb-true}
-use Rattle.std.specs.Prelude.{◌⊎◌, ◌==◌, if◌then◌else◌, Result, Ok, Err}
-use Rattle.std.specs.List.{All, cons_option}
+use Rattle.std.proofs.Common.{◌≡◌, ℕ, true, false, List, [], ◌∷◌, ◌++◌, ◌∙◌, refl, sym, ap, subst, map, Option, Some, None, inl, inr, append_assoc}
+use Rattle.std.specs.Prelude.{◌⊎◌}
+use Rattle.std.specs.List.{All}
 use Rattle.std.proofs.lemmas.List.{append-nil}
-use Rattle.std.proofs.lemmas.List.Elements.{All-head, All-tail, All-cons, All-nil}
-use Rattle.wire_bytes.specs.Bytes.{AreBytes}
-use Rattle.alc_packet.specs.Packet.{SymbolPacket}
-use Rattle.alc_packet.specs.Datagram.{Spells}
-use Rattle.alc_packet.specs.Answer.{Says}
-use Rattle.alc_packet.specs.Reply.{reply}
-use Rattle.alc_packet.specs.declared.datagram.Datagram.{Datagram}
-use Rattle.alc_packet.specs.declared.datagram.Datagram.TheVariants as datagrams
-use Rattle.alc_packet.specs.declared.refusal.Refusal.{Refusal}
-use Rattle.alc_packet.proofs.Public.{some_answer, answered}
 use Rattle.object_store.specs.Session.{Session, IsSession, IsOf, AreOf}
 use Rattle.object_store.specs.Verdict.{held_after}
 use Rattle.object_store.specs.KeptSet.{drops}
@@ -20,7 +10,7 @@ use Rattle.object_store.proofs.Public.{whole_is_sent}
 use Rattle.carousel_cid.specs.Instances.{Shown}
 use Rattle.carousel_cid.specs.declared.file_of.FileOf.{FileOf}
 use Rattle.receiver_core.specs.Best.{Objects, IsBestOf, installed_after}
-use Rattle.receiver_core.specs.Classes.{packet_of_reply, packet_under, packets_of}
+use Rattle.receiver_core.specs.Classes.{packets_of}
 use Rattle.edge_io.specs.Shelved.{Shelved, with_file}
 use Rattle.edge_io.specs.ShelfCalls.{Begin, Finish, after, after_call}
 use Rattle.fcast_run.specs.declared.settings.Settings.{Settings}
@@ -31,35 +21,14 @@ use Rattle.fcast_run.specs.Outcome.{Outcome, received, datagrams_taken, packets_
 use Rattle.fcast_run.specs.Endings.{is_at_end}
 use Rattle.fcast_run.specs.Headline.{IsDatagramOf, IsInstalled, InstallsBest}
 use Rattle.fcast_run.proofs.Installing.{after-append}
+use Rattle.fcast_run.proofs.Spelled.{packets_have}
 use Rattle.receiver_core.proofs.Public.{best_is_best}
 
 -- ---- the packets of a session's datagrams are the session's
 
-pub says_reply : (d : List ℕ) → AreBytes d → Says d (reply d)
-says_reply d bytes = let a = some_answer d bytes in subst (λ r. Says d r) (sym (answered d a.0 a.1)) a.1
-
-of_symbol : (s : Session) (tsi : ℕ) (d : List ℕ) (q p : SymbolPacket) → IsDatagramOf s tsi d
-    → Spells d q → (b : Bool) → (q.tsi == tsi) ≡ b → (if b then Some q else None) ≡ Some p → IsOf s p
-of_symbol s tsi d q p is spells true same e =
-    subst (IsOf s) (let h : q ≡ p = cc in h) (record { packet = spells.packet; belongs = is.belongs q spells (eqb-true q.tsi tsi same) })
-of_symbol s tsi d q p is spells false same e = cc
-
-of_reply : (s : Session) (tsi : ℕ) (d : List ℕ) (p : SymbolPacket) → IsDatagramOf s tsi d
-    → (r : Result Datagram Refusal) → Says d r → packet_of_reply tsi r ≡ Some p → IsOf s p
-of_reply s tsi d p is (Err refusal) says e = cc
-of_reply s tsi d p is (Ok (datagrams.Symbol q)) says e = of_symbol s tsi d q p is says (q.tsi == tsi) refl e
-of_reply s tsi d p is (Ok (datagrams.Control t close)) says e = cc
-
-with_packet : (s : Session) (o : Option SymbolPacket) (ps : List SymbolPacket) → ((p : SymbolPacket) → o ≡ Some p → IsOf s p) → AreOf s ps → AreOf s (cons_option o ps)
-with_packet s None ps one rest = rest
-with_packet s (Some p) ps one rest = All-cons (IsOf s) p ps (one p refl) rest
-
 pub packets_are : (s : Session) (tsi : ℕ) (ds : List (List ℕ)) → All (IsDatagramOf s tsi) ds → AreOf s (packets_of tsi ds)
-packets_are s tsi [] all = All-nil (IsOf s)
-packets_are s tsi (d ∷ ds) all =
-    let is = All-head (IsDatagramOf s tsi) d ds all in
-    with_packet s (packet_under tsi d) (packets_of tsi ds) (λ p e. of_reply s tsi d p is (reply d) (says_reply d is.bytes) e)
-    (packets_are s tsi ds (All-tail (IsDatagramOf s tsi) d ds all))
+packets_are s tsi ds all = packets_have (IsOf s) (IsDatagramOf s tsi) tsi
+    (λ d is. (is.bytes, λ q spells of. record { packet = spells.packet; belongs = is.belongs q spells of })) ds all
 
 -- ---- what the calls of an installation leave on the shelf
 

@@ -12,6 +12,8 @@ pub mod Lists
 pub mod Ranges
 pub mod Sends
 pub mod SentSession
+pub mod Showing
+pub mod Spelled
 pub mod Statuses
 pub mod Taking
 pub mod Told

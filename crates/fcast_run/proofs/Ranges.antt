@@ -10,14 +10,14 @@ use Rattle.fcast_words.specs.Pairs.{Pairs, given, map_of}
 use Rattle.fcast_words.specs.Addresses.{address_of}
 use Rattle.fcast_words.specs.Table as table
 use Rattle.fcast_words.specs.Table.{command_named, options_of}
-use Rattle.fcast_words.specs.Words.{value_of, place_of, port_of, source_of, command_with, command_of}
+use Rattle.fcast_words.specs.Words.{value_of, place_of, port_of, count_of, source_of, command_with, command_of}
 use Rattle.fcast_words.specs.declared.command.Command.{Command}
 use Rattle.fcast_words.specs.declared.command.Command.TheVariants as commands
 use Rattle.fcast_words.specs.declared.command_word.CommandWord.{CommandWord}
 use Rattle.fcast_words.specs.declared.command_word.CommandWord.TheVariants as word
 use Rattle.fcast_run.specs.Commands as specs
 use Rattle.fcast_run.specs.Commands.{task_of, receiving_in, send_in, receiving_of, send_of, sending_of}
-use Rattle.fcast_run.specs.Inner.Ranges.{AreReceiving, AreSending, HasNumbers, IsPort, IfInRange, IfSending}
+use Rattle.fcast_run.specs.Inner.Ranges.{AreReceiving, AreSending, HasNumbers, IsPort, IsCount, IfInRange, IfSending}
 
 abbrev IfNumbers : Option Command → Type 0
 IfNumbers None = Unit {0}
@@ -64,13 +64,18 @@ receiving_has ps tsi budget is_tsi is_budget =
     let b = number_or_fits 4096 1073741824 67108864 (given table.budget.word ps) budget (omega arith) (omega arith) is_budget in
     record { tsi_to = omega (arith, t.1); least = b.0; most = omega (arith, b.1) }
 
+-- a count of datagrams, which is 4,294,967,295 where none is given or has to be given
+most_has : (ps : Pairs) (most : ℕ) → value_of table.most ps ≡ Some most → IsCount most
+most_has ps most is = let m = number_or_fits 1 4294967295 4294967295 (given table.most.word ps) most (omega arith) (omega arith) is in omega (arith, m.1)
+
 recv_has : (ps : Pairs) → IfNumbers (command_with word.Recv ps)
 recv_has ps =
     then_has _ (value_of table.tsi ps) (λ tsi is_tsi. then_has _ (value_of table.budget ps) (λ budget is_budget.
     then_has _ (option_and_then address_of (given table.addr ps)) (λ addr _. then_has _ (value_of table.port ps) (λ port is_port.
-    map_has _ (value_of table.count ps) (λ count _.
+    map_has _ (value_of table.count ps) (λ count is_count.
     let p = number_or_none 1 65535 (given table.port.word ps) port is_port in
-    (receiving_has ps tsi budget is_tsi is_budget, omega (arith, p.1)))))))
+    let c = number_or_none 1 4294967295 (given table.count.word ps) count is_count in
+    (receiving_has ps tsi budget is_tsi is_budget, omega (arith, p.1), omega (arith, c.1)))))))
 
 -- the port of a place that is given
 of_address : (addr : Option (List ℕ)) (port : Option ℕ) (place : Option (List ℕ) × Option ℕ)
@@ -84,6 +89,30 @@ port_fits None None place is = λ q given. let same : (None, None) ≡ place = c
 port_fits (Some a) (Some p) place is = of_address (address_of a) (port_of p) place is (λ q given. let f = number_fits 1 65535 p q given in omega (arith, f.1))
 port_fits None (Some p) place is = cc
 port_fits (Some a) None place is = cc
+
+-- the port and the count of a source that is given
+of_source : (addr : Option (List ℕ)) (port count : Option ℕ) (source : Option (List ℕ) × Option ℕ × Option ℕ)
+    → option_and_then (λ a. option_and_then (λ p. option_map (λ c. (Some a, Some p, Some c)) count) port) addr ≡ Some source
+    → ((p : ℕ) → port ≡ Some p → IsPort p) → ((c : ℕ) → count ≡ Some c → IsCount c) → ForSome source.1 IsPort × ForSome source.2 IsCount
+of_source None port count source is ports counts = cc
+of_source (Some a) None count source is ports counts = cc
+of_source (Some a) (Some p) None source is ports counts = cc
+of_source (Some a) (Some p) (Some c) source is ports counts =
+    let same : (Some a, Some p, Some c) ≡ source = cc in
+    subst (λ (s : Option (List ℕ) × Option ℕ × Option ℕ). ForSome s.1 IsPort × ForSome s.2 IsCount) same (ports, counts)
+
+source_fits : (addr port count : Option (List ℕ)) (source : Option (List ℕ) × Option ℕ × Option ℕ) → source_of addr port count ≡ Some source
+    → ForSome source.1 IsPort × ForSome source.2 IsCount
+source_fits None None None source is =
+    let same : (None, None, None) ≡ source = cc in
+    subst (λ (s : Option (List ℕ) × Option ℕ × Option ℕ). ForSome s.1 IsPort × ForSome s.2 IsCount) same ((λ q given. cc), (λ q given. cc))
+source_fits (Some a) (Some p) (Some c) source is = of_source (address_of a) (port_of p) (count_of c) source is
+    (λ q given. let f = number_fits 1 65535 p q given in omega (arith, f.1))
+    (λ q given. let f = number_fits 1 4294967295 c q given in omega (arith, f.1))
+source_fits None None (Some c) source is = cc
+source_fits None (Some p) count source is = cc
+source_fits (Some a) None count source is = cc
+source_fits (Some a) (Some p) None source is = cc
 
 send_has : (ps : Pairs) → IfNumbers (command_with word.Send ps)
 send_has ps =
@@ -102,14 +131,18 @@ send_has ps =
 
 listen_has : (ps : Pairs) → IfNumbers (command_with word.Listen ps)
 listen_has ps =
-    then_has _ (value_of table.tsi ps) (λ tsi _. then_has _ (value_of table.budget ps) (λ budget _. then_has _ (value_of table.most ps) (λ most _.
-    then_has _ (source_of (given table.addr ps) (given table.port.word ps) (given table.count.word ps)) (λ source _.
-    map_has _ (value_of table.readers ps) (λ readers _. tt)))))
+    then_has _ (value_of table.tsi ps) (λ tsi is_tsi. then_has _ (value_of table.budget ps) (λ budget is_budget.
+    then_has _ (value_of table.most ps) (λ most is_most.
+    then_has _ (source_of (given table.addr ps) (given table.port.word ps) (given table.count.word ps)) (λ source is_source.
+    map_has _ (value_of table.readers ps) (λ readers is_readers.
+    let s = source_fits (given table.addr ps) (given table.port.word ps) (given table.count.word ps) source is_source in
+    let r = number_or_fits 1 16 1 (given table.readers.word ps) readers (omega arith) (omega arith) is_readers in
+    (receiving_has ps tsi budget is_tsi is_budget, most_has ps most is_most, s.0, s.1, (r.0, r.1)))))))
 
 command_has : (word : CommandWord) (ps : Pairs) → IfNumbers (command_with word ps)
 command_has word.Replay ps =
     then_has _ (value_of table.tsi ps) (λ tsi is_tsi. then_has _ (value_of table.budget ps) (λ budget is_budget.
-    map_has _ (value_of table.most ps) (λ most _. receiving_has ps tsi budget is_tsi is_budget)))
+    map_has _ (value_of table.most ps) (λ most is_most. (receiving_has ps tsi budget is_tsi is_budget, most_has ps most is_most))))
 command_has word.Recv ps = recv_has ps
 command_has word.Send ps = send_has ps
 command_has word.Dump ps = map_has _ (value_of table.most ps) (λ most _. tt)
@@ -134,8 +167,9 @@ none_received catalog symbol block maxn cycles tsi (Some place) = tt
 
 of_receiving : (o : Option Command) → IfNumbers o → IfInRange (option_and_then receiving_in (option_and_then task_of o))
 of_receiving None has = tt
-of_receiving (Some (commands.Replay tsi budget most)) has = record { tsi = has.tsi_to; least = has.least; most = has.most }
-of_receiving (Some (commands.Recv tsi budget addr port count)) has = record { tsi = has.0.tsi_to; least = has.0.least; most = has.0.most }
+of_receiving (Some (commands.Replay tsi budget most)) has = record { tsi = has.0.tsi_to; least = has.0.least; most = has.0.most; limit = has.1 }
+of_receiving (Some (commands.Recv tsi budget addr port count)) has =
+    record { tsi = has.0.tsi_to; least = has.0.least; most = has.0.most; limit = has.2 }
 of_receiving (Some (commands.Send catalog addr port symbol block maxn cycles tsi)) has =
     none_received catalog symbol block maxn cycles tsi (specs.place_of addr port)
 of_receiving (Some (commands.Dump most)) has = tt

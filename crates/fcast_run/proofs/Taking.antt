@@ -83,7 +83,7 @@ no_keys = nil_from_length (keys nothing_held.objects) (length-map (entries nothi
     ∙ (sym (len-entries nothing_held.objects) ∙ len-empty nat_cmp ObjectInformation))
 
 -- nothing held comes to no instance
-best_of_nothing : best nothing_held ≡ None
+pub best_of_nothing : best nothing_held ≡ None
 unfolding best
 best_of_nothing = ap (λ ts. best_of (filter_map (complete (whole nothing_held)) ts)) no_keys
 
@@ -99,6 +99,10 @@ fresh r tsi budget is = record {
 pub held_one_more : (r : Receiver) (d : List ℕ) (ds : List (List ℕ)) → HasTaken r ds
     → held_with r.tsi r.budget r.held d ≡ held_after r.budget (packets_of r.tsi (ds ++ d ∷ []))
 held_one_more r d ds has = ap (λ h. held_with r.tsi r.budget h d) has.held ∙ sym (held_at_end r.tsi r.budget nothing_held ds d)
+
+-- what is installed is the best of what is held
+pub installed_best : (r : Receiver) (ds : List (List ℕ)) → HasTaken r ds → r.installed ≡ best r.held
+installed_best r ds has = has.installed ∙ ap best (sym has.held)
 
 -- what taking a datagram and settling leave
 pub record TakesOne (old new : Receiver) (d : List ℕ) : Type 0 where

@@ -1,6 +1,7 @@
--- What the watchers of a run are told of a list of datagrams.
-use Rattle.std.specs.Prelude.{◌≡◌, ℕ, ◌==◌, ◌&&◌, Bool, if◌then◌else◌, List, [], ◌∷◌, ◌++◌, take, Option, Some, None}
+-- What the watchers of a run are told of a list of datagrams, and the instances that are installed while it is taken.
+use Rattle.std.specs.Prelude.{◌≡◌, ℕ, ◌==◌, ◌&&◌, Bool, if◌then◌else◌, List, [], ◌∷◌, ◌++◌, take, Option, Some, None, option_map}
 use Rattle.std.specs.Cmp.Lexicographic.{pointwise}
+use Rattle.std.specs.List.{cons_option, filter_map}
 use Rattle.std.specs.Option.{option_eq}
 use Rattle.std.specs.Str.{bytes_eq}
 use Rattle.alc_packet.specs.Code.{code_of, detail_of}
@@ -43,10 +44,14 @@ abbrev pub same_instance : Shown → Shown → Bool
 same_instance i j =
     (i.number == j.number) && ((i.descriptor_toi == j.descriptor_toi) && (bytes_eq i.listed j.listed && pointwise same_file i.files j.files))
 
--- the number of what is installed now, where it differs from what was installed before
+-- what is installed now, where it differs from what was installed before
+abbrev pub other_instance : Option Shown → Option Shown → Option Shown
+other_instance old None = None
+other_instance old (Some i) = if option_eq same_instance old (Some i) then None else Some i
+
+-- its number
 abbrev pub other_number : Option Shown → Option Shown → Option ℕ
-other_number old None = None
-other_number old (Some i) = if option_eq same_instance old (Some i) then None else Some i.number
+other_number old new = option_map (λ i. i.number) (other_instance old new)
 
 abbrev pub announcement : Option ℕ → List Event
 announcement None = []
@@ -73,6 +78,42 @@ events_of tsi budget datagrams = events_from tsi budget nothing_held datagrams
 -- of the datagrams that a receiver takes
 abbrev pub events_taken : Settings → List (List ℕ) → List Event
 events_taken c left = events_of c.tsi c.budget (datagrams_taken c left)
+
+-- ---- the instances that are installed one after the other
+
+-- with one datagram more: what is installed with it, where that differs from what was installed before
+abbrev pub published_with : ℕ → ℕ → Held → List ℕ → Option Shown
+published_with tsi budget held datagram = other_instance (best held) (best (held_with tsi budget held datagram))
+
+-- of datagrams, of which the first finds this held
+abbrev pub published_from : ℕ → ℕ → Held → List (List ℕ) → List Shown
+published_from tsi budget held [] = []
+published_from tsi budget held (datagram ∷ datagrams) =
+    cons_option (published_with tsi budget held datagram) (published_from tsi budget (held_with tsi budget held datagram) datagrams)
+
+-- of datagrams, of which the first finds nothing held and nothing installed
+unfoldable pub published_of : ℕ → ℕ → List (List ℕ) → List Shown
+published_of tsi budget datagrams = published_from tsi budget nothing_held datagrams
+
+-- of the datagrams that a receiver takes
+abbrev pub published : Settings → List (List ℕ) → List Shown
+published c left = published_of c.tsi c.budget (datagrams_taken c left)
+
+abbrev pub installed_number : Event → Option ℕ
+installed_number (Refused code detail) = None
+installed_number (Elsewhere tsi) = None
+installed_number (Control close) = None
+installed_number (New toi sbn esi block object) = None
+installed_number (Repeat toi sbn esi) = None
+installed_number (Spare toi sbn esi) = None
+installed_number (OtiDiffers toi) = None
+installed_number (SymbolDiffers toi sbn esi at) = None
+installed_number (OverBudget toi sbn esi count charge) = None
+installed_number (Installed number) = Some number
+
+-- the numbers of the instances that events tell of, in order
+abbrev pub installed_numbers : List Event → List ℕ
+installed_numbers events = filter_map installed_number events
 
 -- ---- the events that were told where a run stopped in the middle
 

@@ -3,3 +3,4 @@ pub mod Answers
 pub mod Ranges
 pub mod Sends
 pub mod Tellings
+pub mod Showings

@@ -1,12 +1,18 @@
-//! What the watchers of a run are told.
-ghost use Rattle.std.specs.Prelude.{◌≡◌, ◌∷◌, []};
+//! What the watchers of a run are told, and its audience is shown.
+ghost use Rattle.std.specs.Prelude.{◌≡◌, ◌-◌, ◌<◌, ◌^◌, ◌∷◌, [], Some, length, OnOk, option_map};
 ghost use Rattle.watch_list.specs.Hearing.{Heard};
 ghost use Rattle.fcast_run.specs.Events.{event_of, event_of_packet, announcement};
 ghost use Rattle.fcast_run.specs.Inner.Ranges.{HasPlace};
+ghost use Rattle.fcast_run.specs.Inner.Showings.{with_option, when_another};
+ghost use Rattle.carousel_cid.specs.Instances.{Shown};
+ghost use Rattle.snapshot_hub.specs.Histories.{MayFollow};
 
+use crate::audience::Audience;
 use crate::telling::tell_all;
+use carousel_cid::Instance;
 use object_store::Kept;
 use receiver_core::Taken;
+use std::alloc::AllocError;
 use watch_list::{Event, Watch};
 
 /// Tells the watchers what became of a datagram.
@@ -25,6 +31,22 @@ pub fn tell_installed(watchers: &mut Vec<Box<dyn Watch>>, another: Option<u32>)
 {
     if let Some(number) = another {
         let _dropped = tell_all(watchers, &Event::Installed { number });
+    }
+}
+
+/// Shows the audience the instance that is installed, where it is another one.
+pub fn show_installed<A: Audience>(
+    audience: &mut A,
+    another: Option<u32>,
+    installed: Option<&Instance>,
+) -> Result<(), AllocError>
+    requires follows { A.told → (i : Shown) → when_another another (option_map (λ i. i.now) installed) ≡ Some i → MayFollow (A.shown audience.old) i }
+    requires room { A.told → length (A.shown audience.old) < 2 ^ 32 - 1 }
+    ensures ok { OnOk result (A.told → A.shown audience.new ≡ with_option (A.shown audience.old) (when_another another (option_map (λ i. i.now) installed.entry))) }
+{
+    match (another, installed) {
+        (Some(_), Some(instance)) => audience.show(instance),
+        _ => Ok(()),
     }
 }
 

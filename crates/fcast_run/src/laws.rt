@@ -1,6 +1,6 @@
 //! Laws over the definitions. They are proved, and do nothing when they are called.
 
-ghost use Rattle.std.specs.Prelude.{◌≡◌, ◌≤◌, ◌++◌, ◌∷◌, [], List, ℕ, Some, All};
+ghost use Rattle.std.specs.Prelude.{◌≡◌, ◌≤◌, ◌++◌, ◌∷◌, [], List, ℕ, Some, All, map};
 ghost use Rattle.alc_packet.specs.Packet.{SymbolPacket};
 ghost use Rattle.sender_plan.specs.declared.params.Params.{Params};
 ghost use Rattle.sender_plan.specs.CatalogInstance.{CatalogInstance};
@@ -11,9 +11,11 @@ ghost use Rattle.sender_schedule.specs.Schedule.{schedule};
 ghost use Rattle.object_store.specs.Session as headline;
 ghost use Rattle.object_store.specs.KeptSet.{kept, gathered, set_count, ready_objects};
 ghost use Rattle.receiver_core.specs.Best.{IsBestOf, installed_after};
+ghost use Rattle.fcast_run.specs.Events.{events_taken, installed_numbers, published};
 ghost use Rattle.fcast_run.specs.Headline.{IsDatagramOf};
 ghost use Rattle.fcast_run.specs.LastInstance.{AreReadyIn};
 ghost use Rattle.fcast_run.specs.SentSession.{objects_sent};
+ghost use Rattle.fcast_run.specs.declared.settings.Settings.{Settings};
 
 /// What a sender sends is a session of the receiver's headline: its objects by their identifiers are one, and each
 /// datagram of its schedule is one of it. So every selection of what was sent, in any order and with repeats, is a list
@@ -36,4 +38,9 @@ pub fn what_is_sent_is_installed()
         → IsPlanOf (earlier ++ last ∷ []) bodies params s → (budget : ℕ) (ps : List SymbolPacket) → headline.AreOf (objects_sent s) ps
         → set_count (gathered ps) ≤ budget → AreReadyIn (objects_sent s) (gathered ps) (shown_of (earlier ++ last ∷ []) bodies last)
         → installed_after budget ps ≡ Some (shown_of (earlier ++ last ∷ []) bodies last) }
+{}
+
+/// The numbers that the watchers of a receiver are told are those of the instances that are installed one after the other.
+pub fn what_is_told_is_published()
+    ensures { (c : Settings) (left : List (List ℕ)) → installed_numbers (events_taken c left) ≡ map (λ i. i.number) (published c left) }
 {}

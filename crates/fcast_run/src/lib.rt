@@ -1,6 +1,7 @@
 //! The top call: all that the program does.
 #![tactic(auto)]
 
+mod audience;
 mod bodies;
 mod bound;
 mod command;

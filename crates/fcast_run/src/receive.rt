@@ -1,13 +1,15 @@
 //! Receiving a session.
-ghost use Rattle.std.specs.Prelude.{◌≡◌, ◌+◌, true, Some, IfOk, OnErr, drop};
+ghost use Rattle.std.specs.Prelude.{◌≡◌, ◌+◌, [], true, Some, IfOk, OnErr, drop};
 ghost use Rattle.edge_io.specs.Faults.{Rose};
 ghost use Rattle.fcast_run.specs.Outcome.{received, asked};
 ghost use Rattle.fcast_run.specs.Endings.{is_apart, is_base};
 ghost use Rattle.fcast_run.specs.Inner.Answers.{Blames, AfterTaking, LeavesText, LeavesShelf, status_of_answer};
 ghost use Rattle.fcast_run.specs.Inner.Ranges.{IsInRange};
 ghost use Rattle.fcast_run.specs.Inner.Tellings.{TellsEvents};
+ghost use Rattle.fcast_run.specs.Events.{published};
 ghost use Rattle.watch_list.specs.Hearing.{Heard};
 
+use crate::audience::Audience;
 use crate::conclude::conclude;
 use crate::fault::Fault;
 use crate::settings::Settings;
@@ -16,16 +18,19 @@ use edge_io::{Datagrams, Shelf, Text};
 use std::alloc::Global;
 use watch_list::Watch;
 
-/// Takes the datagrams of the place, installs the best instance, writes the report, and answers the status.
-pub fn receive<D: Datagrams, S: Shelf, T: Text>(
+/// Takes the datagrams of the place, installs the best instance, writes the report, and answers the status. The audience
+/// is closed as soon as no further datagram will be taken.
+pub fn receive<D: Datagrams, S: Shelf, T: Text, A: Audience>(
     alloc: Global,
     settings: &Settings,
     datagrams: &mut D,
     shelf: &mut S,
     text: &mut T,
     watchers: &mut Vec<Box<dyn Watch>>,
+    audience: &mut A,
 ) -> Result<u8, Fault>
-    requires { IsInRange settings.now }
+    requires range { IsInRange settings.now }
+    requires empty { A.told → A.shown audience.old ≡ [] }
     ensures base { IfOk result (λ s. is_base s ≡ true) }
     ensures status { D.told datagrams.old → IfOk result (λ s. s ≡ (received settings.now (D.left datagrams.old) (D.torn datagrams.old)).status) }
     ensures text { D.told datagrams.old → T.told text.old →
@@ -42,8 +47,11 @@ pub fn receive<D: Datagrams, S: Shelf, T: Text>(
         (λ events. Heard (λ v. number v) (λ v. record_of v)
         (λ v. (⟦<dyn Watch as Watch>⟧ v.vtable).told v.value) (λ v. (⟦<dyn Watch as Watch>⟧ v.vtable).faults v.value)
         (λ v e n. refuses v e n) events watchers.old.items watchers.new.items) }
+    ensures shown { D.told datagrams.old → A.told → AfterTaking result (A.shown audience.new ≡ published settings.now (D.left datagrams.old)) }
 {
-    let gathered = gather(alloc, settings, datagrams, watchers)?;
+    let gathered = gather(alloc, settings, datagrams, watchers, audience);
+    audience.close();
+    let gathered = gathered?;
     let receiver = &gathered.receiver;
     conclude(
         alloc,

@@ -2,17 +2,20 @@
 ghost use Rattle.std.specs.Prelude.{◌≡◌, ◌+◌, ◌-◌, ◌≤◌, ◌<◌, ◌^◌, ◌∷◌, ◌++◌, [], ℕ, List, IfOk, OnOk, OnErr, length, take, drop, vec_len, Some};
 ghost use Rattle.edge_io.specs.Faults.{Rose};
 ghost use Rattle.fcast_run.specs.Outcome.{ending_of, limit, asked, datagrams_taken};
-ghost use Rattle.fcast_run.specs.Inner.HasTaken.{HasTaken};
+ghost use Rattle.fcast_run.specs.Inner.HasTaken.{HasTaken, HasTakenSome};
 ghost use Rattle.fcast_run.specs.Inner.Answers.{Blames};
 ghost use Rattle.fcast_run.specs.Inner.Ranges.{IsInRange};
 ghost use Rattle.fcast_run.specs.Inner.Tellings.{TellsEvents};
-ghost use Rattle.fcast_run.specs.Events.{events_with, HearsPart};
+ghost use Rattle.fcast_run.specs.Inner.Showings.{with_option};
+ghost use Rattle.fcast_run.specs.Events.{events_with, published_with, published_of, published, HearsPart};
 ghost use Rattle.receiver_core.specs.Best.{best};
+ghost use Rattle.snapshot_hub.specs.Histories.{last_of};
 ghost use Rattle.watch_list.specs.Hearing.{Heard};
 
+use crate::audience::Audience;
 use crate::bound::Bound;
 use crate::ending::Ending;
-use crate::events::{tell_installed, tell_taken};
+use crate::events::{show_installed, tell_installed, tell_taken};
 use crate::fault::Fault;
 use crate::settings::Settings;
 use edge_io::{Datagrams, Next};
@@ -31,14 +34,17 @@ pub struct Gathered {
     pub ending: Ending,
 }
 
-/// Connects the datagrams to their place, and has a new receiver take them.
-pub fn gather<D: Datagrams>(
+/// Connects the datagrams to their place, and has a new receiver take them. The audience is shown each instance that is
+/// installed then.
+pub fn gather<D: Datagrams, A: Audience>(
     alloc: Global,
     settings: &Settings,
     datagrams: &mut D,
     watchers: &mut Vec<Box<dyn Watch>>,
+    audience: &mut A,
 ) -> Result<Gathered, Fault>
-    requires { IsInRange settings.now }
+    requires range { IsInRange settings.now }
+    requires empty { A.told → A.shown audience.old ≡ [] }
     ensures tsi { IfOk result (λ g. g.receiver.tsi ≡ settings.now.tsi) }
     ensures budget { IfOk result (λ g. g.receiver.budget ≡ settings.now.budget) }
     ensures taken { IfOk result (λ g. D.told datagrams.old → HasTaken g.receiver (datagrams_taken settings.now (D.left datagrams.old))) }
@@ -50,6 +56,7 @@ pub fn gather<D: Datagrams>(
         (λ events. Heard (λ v. number v) (λ v. record_of v)
         (λ v. (⟦<dyn Watch as Watch>⟧ v.vtable).told v.value) (λ v. (⟦<dyn Watch as Watch>⟧ v.vtable).faults v.value)
         (λ v e n. refuses v e n) events watchers.old.items watchers.new.items) }
+    ensures shown { OnOk result (D.told datagrams.old → A.told → A.shown audience.new ≡ published settings.now (D.left datagrams.old)) }
 {
     let mut buffer = zeros(alloc, BUFFER)?;
     let mut receiver = Receiver::start(alloc, settings.tsi, settings.budget)?;
@@ -60,6 +67,7 @@ pub fn gather<D: Datagrams>(
         &mut receiver,
         datagrams,
         watchers,
+        audience,
         settings.bound,
         buffer.as_mut_slice(),
     )?;
@@ -67,15 +75,18 @@ pub fn gather<D: Datagrams>(
 }
 
 /// Has the receiver take the datagrams that are left, as far as the bound goes.
-fn take_all<D: Datagrams>(
+fn take_all<D: Datagrams, A: Audience>(
     receiver: &mut Receiver,
     datagrams: &mut D,
     watchers: &mut Vec<Box<dyn Watch>>,
+    audience: &mut A,
     bound: Bound,
     buffer: &mut [u8],
 ) -> Result<Ending, Fault>
     requires buffer { 65535 ≤ length buffer.old }
     requires fresh { HasTaken receiver.old [] }
+    requires limit { limit bound < 2 ^ 32 }
+    requires empty { A.told → A.shown audience.old ≡ [] }
     ensures taken { OnOk result (D.told datagrams.old → HasTaken receiver.new (take (limit bound) (D.left datagrams.old))) }
     ensures tsi { receiver.new.tsi ≡ receiver.old.tsi }
     ensures budget { receiver.new.budget ≡ receiver.old.budget }
@@ -88,12 +99,16 @@ fn take_all<D: Datagrams>(
         (λ events. Heard (λ v. number v) (λ v. record_of v)
         (λ v. (⟦<dyn Watch as Watch>⟧ v.vtable).told v.value) (λ v. (⟦<dyn Watch as Watch>⟧ v.vtable).faults v.value)
         (λ v e n. refuses v e n) events watchers.old.items watchers.new.items) }
+    ensures shown { OnOk result (D.told datagrams.old → A.told →
+        A.shown audience.new ≡ published_of receiver.old.tsi receiver.old.budget (take (limit bound) (D.left datagrams.old))) }
 {
     // Nobody asks how many row steps a run takes.
     let mut steps = Steps::start(());
     for _taken in 0..bound.limit() {
         match datagrams.next(buffer) {
-            Next::Got(size) => take_one(receiver, &mut steps, watchers, &buffer[..size])?,
+            Next::Got(size) => {
+                take_one(receiver, &mut steps, watchers, audience, &buffer[..size])?;
+            }
             Next::End => return Ok(Ending::End),
             Next::Torn(place) => return Ok(Ending::Torn(place)),
             Next::Failed => return Err(Fault::Datagrams),
@@ -111,28 +126,41 @@ fn take_all<D: Datagrams>(
 }
 
 /// Takes one datagram more, and settles. The watchers are told what became of it, and of another instance that is
-/// installed.
-fn take_one<L>(
+/// installed, which the audience is shown then.
+fn take_one<L, A: Audience>(
     receiver: &mut Receiver,
     steps: &mut Steps<L>,
     watchers: &mut Vec<Box<dyn Watch>>,
+    audience: &mut A,
     datagram: &[u8],
 ) -> Result<(), AllocError>
+    requires some { HasTakenSome receiver.old }
+    requires few { receiver.old.drops < 2 ^ 64 - 1 }
+    requires last { A.told → last_of (A.shown audience.old) ≡ receiver.old.installed }
+    requires room { A.told → length (A.shown audience.old) < 2 ^ 32 - 1 }
     ensures taken { OnOk result ((ds : List (List ℕ)) → receiver.old.drops < 2 ^ 64 - 1 → HasTaken receiver.old ds → HasTaken receiver.new (ds ++ datagram.now ∷ [])) }
     ensures drops { receiver.new.drops ≤ receiver.old.drops + 1 }
     ensures tsi { receiver.new.tsi ≡ receiver.old.tsi }
     ensures budget { receiver.new.budget ≡ receiver.old.budget }
     ensures events { receiver.old.installed ≡ best receiver.old.held →
-        OnOk result (Heard (λ v. number v) (λ v. record_of v) (λ v. told v) (λ v. faults v) (λ v e n. refuses v e n)
+        OnOk result (Heard (λ v. number v) (λ v. record_of v)
+        (λ v. (⟦<dyn Watch as Watch>⟧ v.vtable).told v.value) (λ v. faults v) (λ v e n. refuses v e n)
         (events_with receiver.old.tsi receiver.old.budget receiver.old.held datagram.now) watchers.old.items watchers.new.items) }
     ensures part { OnErr result (HearsPart (events_with receiver.old.tsi receiver.old.budget receiver.old.held datagram.now)
-        (λ events. Heard (λ v. number v) (λ v. record_of v) (λ v. told v) (λ v. faults v) (λ v e n. refuses v e n)
+        (λ events. Heard (λ v. number v) (λ v. record_of v)
+        (λ v. (⟦<dyn Watch as Watch>⟧ v.vtable).told v.value) (λ v. faults v) (λ v e n. refuses v e n)
         events watchers.old.items watchers.new.items)) }
+    ensures some { OnOk result (HasTakenSome receiver.new) }
+    ensures last { OnOk result (A.told → last_of (A.shown audience.new) ≡ receiver.new.installed) }
+    ensures room { OnOk result (A.told → length (A.shown audience.new) ≤ length (A.shown audience.old) + 1) }
+    ensures shown { OnOk result (A.told → receiver.old.installed ≡ best receiver.old.held →
+        A.shown audience.new ≡ with_option (A.shown audience.old) (published_with receiver.old.tsi receiver.old.budget receiver.old.held datagram.now)) }
 {
     let taken = receiver.take(datagram, steps)?;
     tell_taken(watchers, &taken);
     let number = receiver.settle()?;
     tell_installed(watchers, number);
+    show_installed(audience, number, receiver.installed())?;
     Ok(())
 }
 

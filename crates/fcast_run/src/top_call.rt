@@ -20,6 +20,7 @@ ghost use Rattle.fcast_run.specs.Inner.Answers.{status_of_answer};
 ghost use Rattle.fcast_run.specs.declared.sending.Sending.{Sending};
 ghost use Rattle.fcast_run.specs.declared.settings.Settings.{Settings};
 
+use crate::audience::Nobody;
 use crate::command::read_task;
 use crate::drill::drill;
 use crate::dump::dump;
@@ -201,6 +202,7 @@ pub fn run<D: Datagrams, E: Emit, F: Files, S: Shelf, T: Text>(
                 &mut edge.shelf,
                 &mut edge.text,
                 watchers,
+                &mut Nobody,
             );
             status_of(done)
         }

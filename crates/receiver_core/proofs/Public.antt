@@ -1,3 +1,4 @@
 -- What the proofs of other crates may cite.
 pub use Rattle.receiver_core.proofs.Bests.{best_is_best, one_best}
 pub use Rattle.receiver_core.proofs.Datagrams.{by_packets}
+pub use Rattle.receiver_core.proofs.Agreement.{never_back}

@@ -1,5 +1,6 @@
 -- A receiver that has taken a list of datagrams.
-use Rattle.std.specs.Prelude.{◌≡◌, ℕ, List}
+use Rattle.std.specs.Prelude.{◌≡◌, ℕ, List, All}
+use Rattle.wire_bytes.specs.Bytes.{AreBytes}
 use Rattle.object_store.specs.Verdict.{held_after}
 use Rattle.object_store.specs.KeptSet.{drops}
 use Rattle.receiver_core.specs.Classes.{packets_of}
@@ -10,3 +11,9 @@ pub record HasTaken (r : Receiver) (datagrams : List (List ℕ)) : Type 0 where
   pub held : r.held ≡ held_after r.budget (packets_of r.tsi datagrams)
   pub installed : r.installed ≡ installed_after r.budget (packets_of r.tsi datagrams)
   pub drops : r.drops ≡ drops r.budget (packets_of r.tsi datagrams)
+
+-- there is a list of datagrams that it has taken
+pub record HasTakenSome (r : Receiver) : Type 0 where
+  pub datagrams : List (List ℕ)
+  pub bytes : All AreBytes datagrams
+  pub has : HasTaken r datagrams

@@ -8,11 +8,17 @@ use Rattle.fcast_run.specs.declared.sending.Sending.{Sending}
 use Rattle.receiver_core.specs.declared.taken.Taken.{Taken}
 use Rattle.receiver_core.specs.declared.taken.Taken.TheVariants.{Refused, Elsewhere, Control, Packet}
 use Rattle.fcast_run.specs.declared.settings.Settings.{Settings}
+use Rattle.fcast_run.specs.Outcome.{limit}
+
+-- so many datagrams may be taken of a list
+abbrev pub IsCount : ℕ → Type 0
+IsCount n = n < 2 ^ 32
 
 pub record IsInRange (c : Settings) : Type 0 where
   pub tsi : c.tsi < 2 ^ 48
   pub least : 4096 ≤ c.budget
   pub most : c.budget ≤ 2 ^ 30
+  pub limit : IsCount (limit c.bound)
 
 abbrev pub IfInRange : Option Settings → Type 0
 IfInRange None = Unit {0}
@@ -34,6 +40,10 @@ IfSending (Some s) = AreParams s.params
 abbrev pub IsPort : ℕ → Type 0
 IsPort port = port < 2 ^ 16
 
+-- so many readers may look on
+abbrev pub AreReaders : ℕ → Type 0
+AreReaders readers = (1 ≤ readers) × (readers ≤ 16)
+
 pub record AreReceiving (tsi budget : ℕ) : Type 0 where
   pub tsi_to : tsi < 2 ^ 48
   pub least : 4096 ≤ budget
@@ -50,12 +60,13 @@ pub record AreSending (symbol block maxn cycles tsi : ℕ) : Type 0 where
   pub tsi_to : tsi < 2 ^ 32
 
 abbrev pub HasNumbers : Command → Type 0
-HasNumbers (Replay tsi budget most) = AreReceiving tsi budget
-HasNumbers (Recv tsi budget addr port count) = AreReceiving tsi budget × IsPort port
+HasNumbers (Replay tsi budget most) = AreReceiving tsi budget × IsCount most
+HasNumbers (Recv tsi budget addr port count) = AreReceiving tsi budget × IsPort port × IsCount count
 HasNumbers (Send catalog addr port symbol block maxn cycles tsi) = AreSending symbol block maxn cycles tsi × ForSome port IsPort
 HasNumbers (Dump most) = Unit {0}
 HasNumbers (Drill start) = Unit {0}
-HasNumbers (Listen tsi budget most addr port count readers) = Unit {0}
+HasNumbers (Listen tsi budget most addr port count readers) =
+    AreReceiving tsi budget × IsCount most × ForSome port IsPort × ForSome count IsCount × AreReaders readers
 
 -- a packet's place in its source block fits in one byte
 abbrev pub HasPlace : Taken → Type 0

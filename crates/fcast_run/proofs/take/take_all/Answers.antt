@@ -1,9 +1,16 @@
-use Rattle.std.proofs.Common.{◌≡◌, ◌+◌, ◌≤◌, ◌<◌, ◌++◌, ◌∙◌, refl, sym, ap, subst, arith, take, rules}
+use Rattle.std.proofs.Common.{◌≡◌, ◌+◌, ◌≤◌, ◌<◌, [], ◌++◌, ◌∙◌, refl, sym, ap, subst, arith, length, take, rules}
 use Rattle.fcast_run.specs.Inner.HasTaken.{HasTaken}
 use Rattle.fcast_run.specs.Outcome.{limit, ending_at}
 use Rattle.receiver_core.specs.Best.{best}
 use Rattle.fcast_run.specs.Events.{events_of, events_with}
 use Rattle.fcast_run.proofs.Told.{heard_next, heard_all, none_heard, part_heard, told_at_memory, events_more, events_behind}
+use Rattle.fcast_run.proofs.Taking.{best_of_nothing, installed_best}
+use Rattle.fcast_run.proofs.Showing.{published_more, shown_all, nothing_published}
+use Rattle.fcast_run.specs.Events.{published_with}
+use Rattle.fcast_run.specs.Inner.Showings.{with_option}
+use Rattle.snapshot_hub.specs.Histories.{last_of}
+use Rattle.std.proofs.lemmas.List.Elements.{All-nil}
+use Rattle.wire_bytes.specs.Bytes.{AreBytes}
 use Rattle.fcast_run.proofs.Lists.{next_of, one_behind, none_left, all_taken, ends_at, ends_last}
 use Rattle.fcast_run.proofs.take.take_all.Goals as goal
 
@@ -39,6 +46,15 @@ loop-taken-preserved g c =
           c.args.watchers.now.items c.loop-taken.watchers.items c.take_one.new.watchers.items
           (events_more c.args.receiver.now.tsi c.args.receiver.now.budget i left (take c.in-Got.size c.next.new.buffer) r before.tsi before.budget (before.taken told) (next told).take)
           (before.heard told) (one.events ((before.taken told).installed ∙ ap best (sym (before.taken told).held)));
+      some = one.some;
+      last = one.last;
+      count = λ shown. omega (arith, one.room shown, before.count shown);
+      shown = λ told shown.
+          let r = c.loop-taken.receiver in
+          let d = take c.in-Got.size c.next.new.buffer in
+          one.shown shown (installed_best r (take i left) (before.taken told))
+          ∙ ap (λ is. with_option is (published_with r.tsi r.budget r.held d)) (before.shown told shown)
+          ∙ sym (published_more c.args.receiver.now.tsi c.args.receiver.now.budget i left d r before.tsi before.budget (before.taken told) (next told).take);
       place = c.next.ensures.place ∙ before.place;
       grows = omega (arith, before.grows, c.next.ensures.grows);
       room = search rules;
@@ -179,6 +195,11 @@ loop-taken-init g c = record {
       (λ v. (goal.Watch-dyn g (v.vtable, v.value)).faults v.value)
       (λ v e n. (goal.Watch-dyn g (v.vtable, v.value)).refuses v.value e n)
       c.args.receiver.now.tsi c.args.receiver.now.budget (g.D.Datagrams.left c.args.datagrams.now) c.args.watchers.now.items;
+  some = record { datagrams = []; bytes = All-nil AreBytes; has = c.requires.fresh };
+  last = λ shown. ap last_of (c.requires.empty shown) ∙ sym (c.requires.fresh.installed ∙ best_of_nothing);
+  count = λ shown. let none = ap length (c.requires.empty shown) in omega (arith, none);
+  shown = λ told shown. c.requires.empty shown
+      ∙ nothing_published c.args.receiver.now.tsi c.args.receiver.now.budget (g.D.Datagrams.left c.args.datagrams.now);
   place = refl;
   grows = omega arith;
   room = c.requires.buffer;
@@ -256,3 +277,47 @@ returns-in_default-clause-events g c = λ told.
     (λ v e n. (goal.Watch-dyn g (v.vtable, v.value)).refuses v.value e n)
     c.args.receiver.now.tsi c.args.receiver.now.budget c.loop-taken._taken (limit c.args.bound) left c.args.watchers.now.items c.loop-taken.watchers.items
     (ap (λ n. take n left) all) (c.loop-taken.invariant.heard told)
+
+pub returns-in-End-clause-shown : goal.returns-in-End-clause-shown
+returns-in-End-clause-shown g c = λ told shown.
+    let before = c.loop-taken.invariant in
+    let left = g.D.Datagrams.left c.args.datagrams.now in
+    let few : c.loop-taken._taken ≤ limit c.args.bound = omega (arith, c.loop-taken-test.true, c.limit-taken-end.ensures.is) in
+    shown_all c.args.receiver.now.tsi c.args.receiver.now.budget c.loop-taken._taken (limit c.args.bound) left _
+    (all_taken c.loop-taken._taken (limit c.args.bound) left (sym (before.left told) ∙ (c.in-End.ensures.answer (before.told told)).0) few) (before.shown told shown)
+
+pub returns-in-Torn-clause-shown : goal.returns-in-Torn-clause-shown
+returns-in-Torn-clause-shown g c = λ told shown.
+    let before = c.loop-taken.invariant in
+    let left = g.D.Datagrams.left c.args.datagrams.now in
+    let few : c.loop-taken._taken ≤ limit c.args.bound = omega (arith, c.loop-taken-test.true, c.limit-taken-end.ensures.is) in
+    shown_all c.args.receiver.now.tsi c.args.receiver.now.budget c.loop-taken._taken (limit c.args.bound) left _
+    (all_taken c.loop-taken._taken (limit c.args.bound) left (sym (before.left told) ∙ (c.in-Torn.ensures.answer (before.told told)).0) few) (before.shown told shown)
+
+pub returns-in-Got-next-clause-shown : goal.returns-in-Got-next-clause-shown
+returns-in-Got-next-clause-shown g c = λ told shown.
+    let left = g.D.Datagrams.left c.args.datagrams.now in
+    let all : limit c.args.bound ≡ c.loop-taken._taken = omega (arith, c.loop-taken-test.false, c.loop-taken.auto._taken-end, c.limit-taken-end.ensures.is) in
+    shown_all c.args.receiver.now.tsi c.args.receiver.now.budget c.loop-taken._taken (limit c.args.bound) left _
+    (ap (λ n. take n left) all) (c.loop-taken.invariant.shown told shown)
+
+pub returns-in-End-next-clause-shown : goal.returns-in-End-next-clause-shown
+returns-in-End-next-clause-shown g c = λ told shown.
+    let left = g.D.Datagrams.left c.args.datagrams.now in
+    let all : limit c.args.bound ≡ c.loop-taken._taken = omega (arith, c.loop-taken-test.false, c.loop-taken.auto._taken-end, c.limit-taken-end.ensures.is) in
+    shown_all c.args.receiver.now.tsi c.args.receiver.now.budget c.loop-taken._taken (limit c.args.bound) left _
+    (ap (λ n. take n left) all) (c.loop-taken.invariant.shown told shown)
+
+pub returns-in-Torn-next-clause-shown : goal.returns-in-Torn-next-clause-shown
+returns-in-Torn-next-clause-shown g c = λ told shown.
+    let left = g.D.Datagrams.left c.args.datagrams.now in
+    let all : limit c.args.bound ≡ c.loop-taken._taken = omega (arith, c.loop-taken-test.false, c.loop-taken.auto._taken-end, c.limit-taken-end.ensures.is) in
+    shown_all c.args.receiver.now.tsi c.args.receiver.now.budget c.loop-taken._taken (limit c.args.bound) left _
+    (ap (λ n. take n left) all) (c.loop-taken.invariant.shown told shown)
+
+pub returns-in_default-clause-shown : goal.returns-in_default-clause-shown
+returns-in_default-clause-shown g c = λ told shown.
+    let left = g.D.Datagrams.left c.args.datagrams.now in
+    let all : limit c.args.bound ≡ c.loop-taken._taken = omega (arith, c.loop-taken-test.false, c.loop-taken.auto._taken-end, c.limit-taken-end.ensures.is) in
+    shown_all c.args.receiver.now.tsi c.args.receiver.now.budget c.loop-taken._taken (limit c.args.bound) left _
+    (ap (λ n. take n left) all) (c.loop-taken.invariant.shown told shown)
