@@ -11,7 +11,7 @@ use Rattle.sender_plan.specs.CatalogLine.{Begin, fields_of, is_instance, is_file
 use Rattle.sender_plan.specs.declared.fault.BadLine.{BadLine}
 use Rattle.sender_plan.specs.Catalog.{is_passed_over, bad_line, said, instances_of, reading}
 
-has_form : (before : ℕ) (line : List ℕ) → cause_of before line ≡ None → (is_instance (fields_of line) || is_file (fields_of line)) ≡ true
+pub has_form : (before : ℕ) (line : List ℕ) → cause_of before line ≡ None → (is_instance (fields_of line) || is_file (fields_of line)) ≡ true
 unfolding cause_of
 has_form before line sound =
     let later = (none_hold _ (causes_of before (fields_of line)) sound).1 in

@@ -16,5 +16,7 @@ mod Apart
 pub mod Distincts
 mod ReadBack
 pub mod LastInstance
+mod Entries
+pub mod Listed
 pub mod Texts
 pub mod Public

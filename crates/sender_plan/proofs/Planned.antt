@@ -25,7 +25,7 @@ use Rattle.sender_plan.specs.Inner.Planning.{IsSendable, HasPlaces}
 
 -- ---- what isn't refused
 
-not_mapped : {X Y : Type 0} (f : X → Y) (o : Option X) → option_map f o ≡ None → o ≡ None
+pub not_mapped : {X Y : Type 0} (f : X → Y) (o : Option X) → option_map f o ≡ None → o ≡ None
 not_mapped f None is = refl
 not_mapped f (Some x) is = absurd cc
 

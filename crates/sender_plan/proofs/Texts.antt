@@ -1,22 +1,22 @@
 -- The texts of a catalog's items are no longer than its text.
-use Rattle.std.proofs.Common.{◌≡◌, ℕ, suc, ◌+◌, ◌≤◌, Bool, true, false, cond, List, [], ◌∷◌, ◌++◌, Option, Some, None, length, refl, arith}
+use Rattle.std.proofs.Common.{◌≡◌, ℕ, suc, ◌+◌, ◌≤◌, Bool, true, false, cond, List, [], ◌∷◌, Option, Some, None, length, refl, arith}
 use Rattle.std.specs.Prelude.{◌^◌, All, unwrap_or, option_map, option_to_list, map, reverse, ◌==◌}
 use Rattle.std.specs.List.{AllByRecursion, flat_map, onto_first}
 use Rattle.std.proofs.lemmas.List.{length-reverse}
-use Rattle.std.proofs.lemmas.List.Elements.{All-from_recursion}
+use Rattle.std.proofs.lemmas.List.Elements.{All-weaker}
 use Rattle.carousel_cid.specs.Number.{number_below}
 use Rattle.meta_text.specs.Lines.{is_line_feed, begin_with, cut, after_return, without_return, lines_of}
 use Rattle.sender_plan.specs.CatalogInstance.{CatalogItem, CatalogInstance}
-use Rattle.sender_plan.specs.CatalogLine.{Entry, Begin, Item, is_tab, fields_of, entry_in}
-use Rattle.sender_plan.specs.Catalog.{is_passed_over, said, items_before, instances_of}
+use Rattle.sender_plan.specs.CatalogLine.{Entry, Begin, is_tab, fields_of, entry_in}
+use Rattle.sender_plan.specs.Catalog.{is_passed_over, said, instances_of}
+use Rattle.sender_plan.proofs.Entries.{all_both, Says, HasAll, instances_have}
 
 -- the item's texts have together at most so many bytes
 abbrev pub IsShort : ℕ → CatalogItem → Type 0
 IsShort n item = length item.location + length (unwrap_or item.kind []) ≤ n
 
 abbrev SaysShort : ℕ → Entry → Type 0
-SaysShort n (Begin number) = Unit {0}
-SaysShort n (Item item) = IsShort n item
+SaysShort n entry = Says (λ number. Unit {0}) (IsShort n) entry
 
 -- ---- the lines of a text, and the fields of a line, have together at most its bytes
 
@@ -83,36 +83,20 @@ short_said n line few = by (is_passed_over line)
     by true = tt
     by false = short_entry n (fields_of line) (omega (arith, few, length_fields line))
 
-short_more : (n : ℕ) (entries more : List Entry) → AllByRecursion (SaysShort n) entries → AllByRecursion (SaysShort n) more
-    → AllByRecursion (SaysShort n) (entries ++ more)
-short_more n [] more are rest = rest
-short_more n (entry ∷ entries) more are rest = (are.0, short_more n entries more are.1 rest)
-
 short_lines : (n : ℕ) (lines : List (List ℕ)) → lengths lines ≤ n → AllByRecursion (SaysShort n) (flat_map said (map without_return lines))
 short_lines n [] few = tt
 short_lines n (line ∷ lines) few =
-    short_more n (said (without_return line)) (flat_map said (map without_return lines))
+    all_both (SaysShort n) (said (without_return line)) (flat_map said (map without_return lines))
     (short_said n (without_return line) (omega (arith, few, length_without line))) (short_lines n lines (omega (arith, few)))
 
 -- ---- and so are the items
 
-short_items : (n : ℕ) (entries : List Entry) → AllByRecursion (SaysShort n) entries → AllByRecursion (IsShort n) (items_before entries)
-short_items n [] are = tt
-short_items n (Begin number ∷ entries) are = tt
-short_items n (Item item ∷ entries) are = (are.0, short_items n entries are.1)
-
-short_instances : (n : ℕ) (entries : List Entry) → AllByRecursion (SaysShort n) entries
-    → AllByRecursion (λ i. All (IsShort n) i.items) (instances_of entries)
-short_instances n [] are = tt
-short_instances n (Begin number ∷ entries) are =
-    (All-from_recursion (IsShort n) (items_before entries) (short_items n entries are.1), short_instances n entries are.1)
-short_instances n (Item item ∷ entries) are = short_instances n entries are.1
-
 pub short_texts : (text : List ℕ) → All (λ i. All (IsShort (length text)) i.items) (instances_of (flat_map said (lines_of text)))
 short_texts text =
     let n = length text in
-    All-from_recursion (λ i. All (IsShort n) i.items) (instances_of (flat_map said (lines_of text)))
-    (short_instances n (flat_map said (lines_of text)) (short_lines n (cut text) (length_cut text)))
+    let entries = flat_map said (lines_of text) in
+    All-weaker (HasAll (λ number. Unit {0}) (IsShort n)) (λ i. All (IsShort n) i.items) (λ i has. has.1) (instances_of entries)
+    (instances_have (λ number. Unit {0}) (IsShort n) entries (short_lines n (cut text) (length_cut text)))
 
 pub texts_within : (m n : ℕ) (instances : List CatalogInstance) → All (λ i. All (IsShort m) i.items) instances → m ≤ n
     → All (λ i. All (IsShort n) i.items) instances

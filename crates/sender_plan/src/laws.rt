@@ -1,13 +1,14 @@
 //! Laws over the definitions. They are proved, and do nothing when they are called.
 
-ghost use Rattle.std.specs.Prelude.{◌≡◌, ◌<◌, ◌++◌, ◌∷◌, [], ◌⊎◌, ℕ, List, true, All};
+ghost use Rattle.std.specs.Prelude.{◌≡◌, ◌<◌, ◌≤◌, ◌++◌, ◌∷◌, [], ◌⊎◌, ℕ, List, Ok, true, length, All};
 ghost use Rattle.std.specs.List.{list_any};
 ghost use Rattle.carousel_cid.specs.declared.kind.Kind.TheVariants.{File, Descriptor};
 ghost use Rattle.sender_plan.specs.declared.params.Params.{Params};
+ghost use Rattle.sender_plan.specs.Catalog.{reading};
 ghost use Rattle.sender_plan.specs.CatalogInstance.{CatalogInstance};
 ghost use Rattle.sender_plan.specs.Content.{Content, same, identifier};
 ghost use Rattle.sender_plan.specs.Installed.{shown_of, Carries};
-ghost use Rattle.sender_plan.specs.PlanOf.{IsPlanOf};
+ghost use Rattle.sender_plan.specs.PlanOf.{IsFit, IsPlanOf};
 ghost use Rattle.sender_plan.specs.Session.{Session};
 
 /// Contents that are the same have one identifier, and contents that differ have different ones: a file that is changed
@@ -16,6 +17,12 @@ pub fn identifiers_tell_contents_apart()
     ensures same { (all : List Content) (a b : Content) → same a b ≡ true → identifier all a ≡ identifier all b }
     ensures differ { (all : List Content) (a b : Content) → list_any (same a) all ≡ true → list_any (same b) all ≡ true
         → identifier all a ≡ identifier all b → same a b ≡ true }
+{}
+
+/// What a text of at most 16,777,216 bytes lists may be planned: its numbers have 32 bits, and the locations and types of
+/// its files may stand in an object's fields.
+pub fn what_is_listed_is_fit()
+    ensures { (text : List ℕ) (instances : List CatalogInstance) → reading text ≡ Ok instances → length text ≤ 16777216 → All IsFit instances }
 {}
 
 /// The last instance of a catalog reads back from the objects of its session: its descriptor and its files are objects
