@@ -1,4 +1,5 @@
 pub mod Answered
+pub mod Asked
 pub mod DatagramBytes
 pub mod DrillCatalog
 pub mod DrillTaking

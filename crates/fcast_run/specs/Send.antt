@@ -1,11 +1,12 @@
 -- What a send comes to: all that it sends, or the line that says what refuses it first.
-use Rattle.std.specs.Prelude.{ℕ, ◌+◌, nat_lt, if◌then◌else◌, List, [], ◌∷◌, ◌++◌, length, Option, Some, None, option_map, Result, Ok, Err, codes}
+use Rattle.std.specs.Prelude.{◌≡◌, ℕ, ◌+◌, nat_lt, if◌then◌else◌, List, [], ◌∷◌, ◌++◌, length, map, Option, Some, None, option_map, Result, Ok, Err, codes}
 use Rattle.wire_bytes.specs.FirstFault.{first_fault, unless_fault}
 use Rattle.sender_plan.specs.CatalogInstance.{CatalogInstance}
 use Rattle.sender_plan.specs.Catalog.{reading}
 use Rattle.sender_plan.specs.Check.{check_faults, most_bytes}
 use Rattle.sender_plan.specs.Names.{names_of}
 use Rattle.sender_plan.specs.Plan.{planned, plan_faults}
+use Rattle.sender_plan.specs.PlanOf.{IsPlanOf}
 use Rattle.sender_plan.specs.Session.{Session}
 use Rattle.sender_plan.specs.declared.fault.PlanFault.{PlanFault}
 use Rattle.sender_plan.specs.declared.fault.PlanFault.TheVariants.{NumberNotRising, TooManyFiles, TooLarge, Params, Memory}
@@ -83,6 +84,16 @@ abbrev pub asked : Found → Sending → Result Session Refusal
 asked found s =
     and_then (bytes_under s.catalog (found s.catalog)) (λ text.
     and_then (catalog_in text) (session_of found s.params))
+
+-- the session is planned of what the catalog's text lists, and of the bodies that the files have under its names
+pub record IsPlannedOf (found : Found) (s : Sending) (session : Session) : Type 0 where
+  pub text : List ℕ
+  pub instances : List CatalogInstance
+  pub bodies : List (List ℕ)
+  pub there : found s.catalog ≡ Some text
+  pub listed : reading text ≡ Ok instances
+  pub read : map found (names_of instances) ≡ map (λ body. Some body) bodies
+  pub plan : IsPlanOf instances bodies s.params session
 
 abbrev pub refusal_status : Refusal → ℕ
 refusal_status (Line number cause) = 8

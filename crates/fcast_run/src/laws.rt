@@ -1,6 +1,6 @@
 //! Laws over the definitions. They are proved, and do nothing when they are called.
 
-ghost use Rattle.std.specs.Prelude.{◌≡◌, ◌≤◌, ◌++◌, ◌∷◌, [], List, ℕ, Some, All, map};
+ghost use Rattle.std.specs.Prelude.{◌≡◌, ◌≤◌, ◌++◌, ◌∷◌, [], List, ℕ, Some, Ok, All, map};
 ghost use Rattle.alc_packet.specs.Packet.{SymbolPacket};
 ghost use Rattle.sender_plan.specs.declared.params.Params.{Params};
 ghost use Rattle.sender_plan.specs.CatalogInstance.{CatalogInstance};
@@ -14,7 +14,9 @@ ghost use Rattle.receiver_core.specs.Best.{IsBestOf, installed_after};
 ghost use Rattle.fcast_run.specs.Events.{events_taken, installed_numbers, published};
 ghost use Rattle.fcast_run.specs.Headline.{IsDatagramOf};
 ghost use Rattle.fcast_run.specs.LastInstance.{AreReadyIn};
+ghost use Rattle.fcast_run.specs.Send.{Found, asked, IsPlannedOf};
 ghost use Rattle.fcast_run.specs.SentSession.{objects_sent};
+ghost use Rattle.fcast_run.specs.declared.sending.Sending.{Sending};
 ghost use Rattle.fcast_run.specs.declared.settings.Settings.{Settings};
 
 /// What a sender sends is a session of the receiver's headline: its objects by their identifiers are one, and each
@@ -23,6 +25,12 @@ ghost use Rattle.fcast_run.specs.declared.settings.Settings.{Settings};
 pub fn what_is_sent_is_a_session()
     ensures session { (s : Session) → IsSession s → headline.IsSession (objects_sent s) }
     ensures datagrams { (s : Session) → IsSession s → All (IsDatagramOf (objects_sent s) s.tsi) (schedule s) }
+{}
+
+/// A sound session that a send asks for is the plan of what the catalog's text lists, with the bodies that the files have
+/// under its names. So what `run` sends with status 0 is a session of which `what_is_sent_is_installed` speaks.
+pub fn what_is_asked_is_planned()
+    ensures { (found : Found) (s : Sending) (session : Session) → asked found s ≡ Ok session → IsSession session → IsPlannedOf found s session }
 {}
 
 /// The last instance of a catalog is what a receiver installs from any packets of the catalog's session, in any order and
