@@ -60,6 +60,11 @@ abbrev pub limit : Bound → ℕ
 limit (Most most) = most
 limit (Count count) = count
 
+-- the list ends with the last of so many
+abbrev pub IsCounted : Bound → Type 0
+IsCounted (Most most) = ⊥
+IsCounted (Count count) = Unit {0}
+
 -- how many are asked for: behind the most that are taken one more
 abbrev pub asked : Bound → ℕ
 asked (Most most) = most + 1

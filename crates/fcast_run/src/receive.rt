@@ -1,7 +1,7 @@
 //! Receiving a session.
-ghost use Rattle.std.specs.Prelude.{◌≡◌, ◌+◌, [], true, Some, IfOk, OnErr, drop};
+ghost use Rattle.std.specs.Prelude.{◌≡◌, ◌≢◌, ◌+◌, [], true, Some, IfOk, OnErr, drop};
 ghost use Rattle.edge_io.specs.Faults.{Rose};
-ghost use Rattle.fcast_run.specs.Outcome.{received, asked};
+ghost use Rattle.fcast_run.specs.Outcome.{received, asked, IsCounted};
 ghost use Rattle.fcast_run.specs.Endings.{is_apart, is_base};
 ghost use Rattle.fcast_run.specs.Inner.Answers.{Blames, AfterTaking, LeavesText, LeavesShelf, status_of_answer};
 ghost use Rattle.fcast_run.specs.Inner.Ranges.{IsInRange};
@@ -32,6 +32,7 @@ pub fn receive<D: Datagrams, S: Shelf, T: Text, A: Audience>(
     requires range { IsInRange settings.now }
     requires empty { A.told → A.shown audience.old ≡ [] }
     ensures base { IfOk result (λ s. is_base s ≡ true) }
+    ensures counted { IsCounted settings.now.bound → IfOk result (λ s. s ≢ 11) }
     ensures status { D.told datagrams.old → IfOk result (λ s. s ≡ (received settings.now (D.left datagrams.old) (D.torn datagrams.old)).status) }
     ensures text { D.told datagrams.old → T.told text.old →
         LeavesText result (received settings.now (D.left datagrams.old) (D.torn datagrams.old)).report (T.written text.old) (T.written text.new) }

@@ -1,7 +1,8 @@
 //! Taking the datagrams of a list.
-ghost use Rattle.std.specs.Prelude.{◌≡◌, ◌+◌, ◌-◌, ◌≤◌, ◌<◌, ◌^◌, ◌∷◌, ◌++◌, [], ℕ, List, IfOk, OnOk, OnErr, length, take, drop, vec_len, Some};
+ghost use Rattle.std.specs.Prelude.{◌≡◌, ◌≢◌, ◌+◌, ◌-◌, ◌≤◌, ◌<◌, ◌^◌, ◌∷◌, ◌++◌, [], ℕ, List, IfOk, OnOk, OnErr, length, take, drop, vec_len, Some};
 ghost use Rattle.edge_io.specs.Faults.{Rose};
-ghost use Rattle.fcast_run.specs.Outcome.{ending_of, limit, asked, datagrams_taken};
+ghost use Rattle.fcast_run.specs.declared.ending.Ending.TheVariants.{TooMany};
+ghost use Rattle.fcast_run.specs.Outcome.{ending_of, limit, asked, datagrams_taken, IsCounted};
 ghost use Rattle.fcast_run.specs.Inner.HasTaken.{HasTaken, HasTakenSome};
 ghost use Rattle.fcast_run.specs.Inner.Answers.{Blames};
 ghost use Rattle.fcast_run.specs.Inner.Ranges.{IsInRange};
@@ -48,6 +49,7 @@ pub fn gather<D: Datagrams, A: Audience>(
     ensures tsi { IfOk result (λ g. g.receiver.tsi ≡ settings.now.tsi) }
     ensures budget { IfOk result (λ g. g.receiver.budget ≡ settings.now.budget) }
     ensures taken { IfOk result (λ g. D.told datagrams.old → HasTaken g.receiver (datagrams_taken settings.now (D.left datagrams.old))) }
+    ensures counted { IsCounted settings.now.bound → IfOk result (λ g. g.ending ≢ TooMany) }
     ensures ending { IfOk result (λ g. D.told datagrams.old → g.ending ≡ ending_of settings.now.bound (D.left datagrams.old) (D.torn datagrams.old)) }
     ensures left { OnOk result (D.told datagrams.old → D.left datagrams.new ≡ drop (asked settings.now.bound) (D.left datagrams.old)) }
     ensures place { OnOk result (D.connected datagrams.new ≡ Some settings.now.place) }
@@ -90,6 +92,7 @@ fn take_all<D: Datagrams, A: Audience>(
     ensures taken { OnOk result (D.told datagrams.old → HasTaken receiver.new (take (limit bound) (D.left datagrams.old))) }
     ensures tsi { receiver.new.tsi ≡ receiver.old.tsi }
     ensures budget { receiver.new.budget ≡ receiver.old.budget }
+    ensures counted { IsCounted bound → IfOk result (λ ending. ending ≢ TooMany) }
     ensures ending { IfOk result (λ ending. D.told datagrams.old → ending ≡ ending_of bound (D.left datagrams.old) (D.torn datagrams.old)) }
     ensures left { OnOk result (D.told datagrams.old → D.left datagrams.new ≡ drop (asked bound) (D.left datagrams.old)) }
     ensures place { D.connected datagrams.new ≡ D.connected datagrams.old }

@@ -7,7 +7,7 @@ ghost use Rattle.object_store.specs.KeptSet.{drops};
 ghost use Rattle.sender_plan.specs.Session as plans;
 ghost use Rattle.fcast_run.specs.Commands.{is_command, receiving_of, dump_of, send_of, drill_of};
 ghost use Rattle.fcast_run.specs.Texts.{usage_line};
-ghost use Rattle.fcast_run.specs.Outcome.{received, asked, datagrams_taken, packets_taken};
+ghost use Rattle.fcast_run.specs.Outcome.{received, asked, datagrams_taken, packets_taken, IsCounted};
 ghost use Rattle.fcast_run.specs.Dump.{dumped};
 ghost use Rattle.fcast_run.specs.Send.{sent};
 ghost use Rattle.fcast_run.specs.Send as sends;
@@ -84,6 +84,7 @@ pub fn run<D: Datagrams, E: Emit, F: Files, S: Shelf, T: Text>(
     ensures table { is_status result ≡ true }
     ensures usage { is_command words.now ≡ false → result ≢ 5 → result ≢ 9 → result ≡ 1 }
     ensures command { result ≡ 1 → is_command words.now ≡ false }
+    ensures counted { (c : Settings) → receiving_of words.now ≡ Some c → IsCounted c.bound → result ≢ 11 }
     ensures datagrams_failed { result ≡ 4 → Rose (D.faults edge.old.datagrams) (D.faults edge.new.datagrams) }
     ensures text_failed { send_of words.now ≡ None → result ≡ 5 → Rose (T.faults edge.old.text) (T.faults edge.new.text) }
     ensures shelf_failed { result ≡ 6 → Rose (S.faults edge.old.shelf) (S.faults edge.new.shelf) }
