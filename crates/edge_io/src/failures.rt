@@ -1,6 +1,6 @@
 //! The failures of a real device.
 
-ghost use Rattle.std.specs.Prelude.{◌≡◌, ◌≤◌, ◌↔◌, Option, OnOk, None, IsOk, IsErrOf};
+ghost use Rattle.std.specs.Prelude.{◌≡◌, ◌≤◌, ◌↔◌, Option, OnOk, Some, None, IsOk, IsErrOf};
 ghost use Rattle.edge_io.specs.Faults.{Rose, one_more};
 
 use crate::Trouble;
@@ -31,6 +31,7 @@ impl Failures {
 
     /// Counts and keeps a failure.
     pub fn add(&mut self, error: io::Error)
+        ensures last { self.new.last ≡ Some error }
         ensures fault { self.new.count ≡ one_more self.old.count }
         ensures rose { Rose self.old.count self.new.count }
         ensures grows { self.old.count ≤ self.new.count }

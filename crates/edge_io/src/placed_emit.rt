@@ -32,6 +32,7 @@ impl<T: Text, N: Net + Clock + Drop> PlacedEmit<T, N> {
     /// second, with no limit at 0. Takes no memory.
     pub fn new(alloc: Global, sink: T, net: N, rate: u64) -> PlacedEmit<T, N>
         ensures sink { result.log.sink ≡ sink }
+        ensures rate { result.udp.rate ≡ rate }
         ensures connected { result.connected ≡ None }
         ensures failures { result.failures ≡ 0 }
     {
@@ -45,6 +46,7 @@ impl<T: Text, N: Net + Clock + Drop> PlacedEmit<T, N> {
 
     /// Connects at the place. The count stays.
     fn connect_at(&mut self, place: &Place) -> Result<(), Trouble>
+        ensures rate { self.new.udp.rate ≡ self.old.udp.rate }
         ensures ok { OnOk result (self.new.connected ≡ Some place.now) }
         ensures err { OnErr result (self.new.connected ≡ self.old.connected) }
         ensures unwritten { IsUdp (Some place.now) → self.new.log ≡ self.old.log }
@@ -64,6 +66,7 @@ impl<T: Text, N: Net + Clock + Drop> PlacedEmit<T, N> {
     /// Sends the datagram to the place. The count stays.
     fn send_there(&mut self, datagram: &[u8]) -> Result<(), Trouble>
         requires { length datagram.now ≤ 65535 }
+        ensures rate { self.new.udp.rate ≡ self.old.udp.rate }
         ensures place { self.new.connected ≡ self.old.connected }
         ensures unwritten { IsUdp self.old.connected → self.new.log ≡ self.old.log }
         ensures unsent { self.old.connected ≡ Some Place.Log → self.new.udp ≡ self.old.udp }
@@ -86,6 +89,7 @@ impl<T: Text, N: Net + Clock + Drop> Emit for PlacedEmit<T, N> {
     ghost faults = { λ s. s.failures };
 
     fn connect(&mut self, place: &Place) -> Result<(), Trouble>
+        ensures rate { self.new.udp.rate ≡ self.old.udp.rate }
         ensures ok { OnOk result (self.new.connected ≡ Some place.now) }
         ensures err { OnErr result (self.new.connected ≡ self.old.connected) }
         ensures unwritten { IsUdp (Some place.now) → self.new.log ≡ self.old.log }
@@ -104,6 +108,7 @@ impl<T: Text, N: Net + Clock + Drop> Emit for PlacedEmit<T, N> {
 
     fn send(&mut self, datagram: &[u8]) -> Result<(), Trouble>
         requires { length datagram.now ≤ 65535 }
+        ensures rate { self.new.udp.rate ≡ self.old.udp.rate }
         ensures place { self.new.connected ≡ self.old.connected }
         ensures unwritten { IsUdp self.old.connected → self.new.log ≡ self.old.log }
         ensures unsent { self.old.connected ≡ Some Place.Log → self.new.udp ≡ self.old.udp }

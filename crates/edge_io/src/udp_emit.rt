@@ -26,7 +26,7 @@ pub struct UdpEmit<N: Net + Clock + Drop> {
     /// What opens sockets and has the time.
     rt: N,
     /// Bytes a second, or 0 for no limit.
-    rate: u64,
+    pub rate: u64,
     /// The way to the place.
     line: Option<Line>,
     /// The place of the last `connect` that answered `Ok`.
@@ -48,6 +48,7 @@ struct Line {
 impl<N: Net + Clock + Drop> UdpEmit<N> {
     /// A sink that keeps to so many bytes a second, or has no limit at 0. No socket is open yet.
     pub fn new(rt: N, rate: u64) -> UdpEmit<N>
+        ensures rate { result.rate ≡ rate }
         ensures connected { result.connected ≡ None }
         ensures failures { result.failures.count ≡ 0 }
     {
@@ -62,6 +63,7 @@ impl<N: Net + Clock + Drop> UdpEmit<N> {
 
     /// Closes the socket, where there is one.
     pub fn close(&mut self)
+        ensures rate { self.new.rate ≡ self.old.rate }
         ensures connected { self.new.connected ≡ None }
         ensures failures { self.new.failures ≡ self.old.failures }
     {
@@ -82,6 +84,7 @@ impl<N: Net + Clock + Drop> Emit for UdpEmit<N> {
     /// The socket of an earlier `connect` is closed where this one answers `Ok`, and stays where it
     /// fails. Nothing is sent.
     fn connect(&mut self, place: &Place) -> Result<(), Trouble>
+        ensures rate { self.new.rate ≡ self.old.rate }
         ensures ok { OnOk result (self.new.connected ≡ Some place.now) }
         ensures err { OnErr result (self.new.connected ≡ self.old.connected) }
         ensures fault { IsErrOf result Trouble.Failed → self.new.failures.count ≡ one_more self.old.failures.count }
@@ -104,6 +107,7 @@ impl<N: Net + Clock + Drop> Emit for UdpEmit<N> {
     /// bytes, which are no datagram over IPv4, fails, and so does one before a `connect`.
     fn send(&mut self, datagram: &[u8]) -> Result<(), Trouble>
         requires { length datagram.now ≤ 65535 }
+        ensures rate { self.new.rate ≡ self.old.rate }
         ensures place { self.new.connected ≡ self.old.connected }
         ensures fault { IsErrOf result Trouble.Failed → self.new.failures.count ≡ one_more self.old.failures.count }
         ensures quiet { OnOk result (self.new.failures.count ≡ self.old.failures.count) }
