@@ -12,7 +12,8 @@ use Rattle.sender_plan.specs.Session.{Session, IsSession}
 use Rattle.sender_plan.specs.declared.fault.PlanFault.{PlanFault}
 use Rattle.sender_plan.specs.declared.fault.PlanFault.TheVariants.{TooLarge}
 use Rattle.sender_plan.proofs.Listed.{fit_listed}
-use Rattle.fcast_run.specs.Send.{Found, and_then, most_file, bytes_under, unless_bad, catalog_in, refusal_of, unless_any, within, bodies_of, checked, session_of, asked, IsPlannedOf}
+use Rattle.fcast_run.specs.Send.{Found, and_then, most_file, bytes_under, unless_bad, catalog_in, refusal_of, unless_any, within, bodies_of}
+use Rattle.fcast_run.specs.Send.{checked, session_of, asked, IsPlannedOf}
 use Rattle.fcast_run.specs.declared.sending.Sending.{Sending}
 use Rattle.fcast_run.specs.declared.sending.Refusal.{Refusal}
 use Rattle.fcast_run.specs.declared.sending.Refusal.TheVariants.{Line, TooBig}

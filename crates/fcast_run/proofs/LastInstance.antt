@@ -1,10 +1,11 @@
 -- A receiver installs the last instance of a catalog from packets of its session that make the instance ready.
 use Rattle.std.proofs.Common.{◌≡◌, ℕ, ◌<◌, ◌≤◌, Bool, true, false, List, [], ◌∷◌, ◌++◌, Option, Some, None, map, refl, sym, ap, subst, ◌∙◌, get_or, arith, inl, inr}
 use Rattle.std.specs.Prelude.{All, ◌==◌, if◌then◌else◌, option_map}
+use Rattle.std.specs.List.{Contains}
 use Rattle.std.specs.Option.{option_and_then}
 use Rattle.std.proofs.lemmas.Bool.{ne_eqb, eqb-false}
 use Rattle.std.proofs.lemmas.Bool.Decides.{nat_tests}
-use Rattle.std.proofs.lemmas.List.Elements.{All-head, All-tail}
+use Rattle.std.proofs.lemmas.List.Elements.{All-head, All-tail, All-contains}
 use Rattle.alc_packet.specs.Packet.{SymbolPacket}
 use Rattle.carousel_cid.specs.Instances.{Shown, toi_of}
 use Rattle.carousel_cid.specs.Kinds.{kind_of_object}
@@ -17,6 +18,7 @@ use Rattle.object_store.specs.KeptSet.{kept, gathered, set_count, sent_when_read
 use Rattle.object_store.specs.Session.{AreOf}
 use Rattle.object_store.proofs.Public.{all_kept, whole_is_sent}
 use Rattle.receiver_core.specs.Best.{Objects, IsBestOf, complete, file_of_kind, file_of, files_of, is_better, installed_after}
+use Rattle.receiver_core.specs.Classes.{packets_of}
 use Rattle.receiver_core.proofs.Completing.{complete_descriptor, complete_named, descriptor_of}
 use Rattle.receiver_core.proofs.Public.{best_is_best, one_best}
 use Rattle.sender_plan.specs.declared.params.Params.{Params}
@@ -27,9 +29,12 @@ use Rattle.sender_plan.specs.Session.{SentObject, Session, object_of}
 use Rattle.sender_plan.proofs.Public.{of_mapped}
 use Rattle.sender_plan.proofs.LastInstance.{file_objects, descriptor_object, any_descriptor}
 use Rattle.sender_schedule.specs.Datagram.{sent_of}
+use Rattle.sender_schedule.specs.Schedule.{schedule}
+use Rattle.fcast_run.specs.Headline.{IsDatagramOf}
 use Rattle.fcast_run.specs.LastInstance.{IsReadyIn, AreReadyIn}
 use Rattle.fcast_run.specs.SentSession.{objects_sent}
-use Rattle.fcast_run.proofs.SentSession.{session_is}
+use Rattle.fcast_run.proofs.Headline.{packets_are}
+use Rattle.fcast_run.proofs.SentSession.{session_is, all_of_session}
 
 -- ---- the objects that are ready
 
@@ -86,7 +91,8 @@ mapped_from f (Some a) b is = (a, refl, cc)
 
 -- ---- the last instance
 
-module _ (bodies : List (List ℕ)) (front : List CatalogInstance) (last : CatalogInstance) (params : Params) (s : Session) (plan : IsPlanOf (front ++ last ∷ []) bodies params s) where
+module _ (bodies : List (List ℕ)) (front : List CatalogInstance) (last : CatalogInstance) (params : Params) (s : Session)
+    (plan : IsPlanOf (front ++ last ∷ []) bodies params s) where
   abbrev shown : Shown
   shown = shown_of (front ++ last ∷ []) bodies last
 
@@ -138,3 +144,12 @@ module _ (bodies : List (List ℕ)) (front : List CatalogInstance) (last : Catal
       (subst (λ (os : Objects). IsBestOf os (installed_after budget ps))
       (λ i t. whole_is_sent (objects_sent s) budget ps t (session_is s plan.sound) are i) (best_is_best (held_after budget ps)))
       (last_is_best budget ps are within ready)
+
+  -- any datagrams of the schedule are packets of the session
+  pub datagrams_install : (budget : ℕ) (ds : List (List ℕ)) → All (Contains (schedule s)) ds → set_count (gathered (packets_of s.tsi ds)) ≤ budget
+      → AreReadyIn (objects_sent s) (gathered (packets_of s.tsi ds)) shown → installed_after budget (packets_of s.tsi ds) ≡ Some shown
+  datagrams_install budget ds sent within ready =
+      let is = IsDatagramOf (objects_sent s) s.tsi in
+      let all = all_of_session s plan.sound in
+      let are = packets_are (objects_sent s) s.tsi ds (λ at d less. All-contains is (schedule s) (get_or ds at d) all (sent at d less)) in
+      last_is_installed budget (packets_of s.tsi ds) are within ready

@@ -1,6 +1,7 @@
 //! Laws over the definitions. They are proved, and do nothing when they are called.
 
 ghost use Rattle.std.specs.Prelude.{◌≡◌, ◌≤◌, ◌++◌, ◌∷◌, [], List, ℕ, Some, Ok, All, map};
+ghost use Rattle.std.specs.List.{Contains};
 ghost use Rattle.alc_packet.specs.Packet.{SymbolPacket};
 ghost use Rattle.sender_plan.specs.declared.params.Params.{Params};
 ghost use Rattle.sender_plan.specs.CatalogInstance.{CatalogInstance};
@@ -11,6 +12,7 @@ ghost use Rattle.sender_schedule.specs.Schedule.{schedule};
 ghost use Rattle.object_store.specs.Session as headline;
 ghost use Rattle.object_store.specs.KeptSet.{kept, gathered, set_count, ready_objects};
 ghost use Rattle.receiver_core.specs.Best.{IsBestOf, installed_after};
+ghost use Rattle.receiver_core.specs.Classes.{packets_of};
 ghost use Rattle.fcast_run.specs.Events.{events_taken, installed_numbers, published};
 ghost use Rattle.fcast_run.specs.Headline.{IsDatagramOf};
 ghost use Rattle.fcast_run.specs.LastInstance.{AreReadyIn};
@@ -46,6 +48,12 @@ pub fn what_is_sent_is_installed()
         → IsPlanOf (earlier ++ last ∷ []) bodies params s → (budget : ℕ) (ps : List SymbolPacket) → headline.AreOf (objects_sent s) ps
         → set_count (gathered ps) ≤ budget → AreReadyIn (objects_sent s) (gathered ps) (shown_of (earlier ++ last ∷ []) bodies last)
         → installed_after budget ps ≡ Some (shown_of (earlier ++ last ∷ []) bodies last) }
+    // The same of any datagrams of the session's schedule.
+    ensures datagrams { (earlier : List CatalogInstance) (last : CatalogInstance) (bodies : List (List ℕ)) (params : Params) (s : Session)
+        → IsPlanOf (earlier ++ last ∷ []) bodies params s → (budget : ℕ) (ds : List (List ℕ)) → All (Contains (schedule s)) ds
+        → set_count (gathered (packets_of s.tsi ds)) ≤ budget
+        → AreReadyIn (objects_sent s) (gathered (packets_of s.tsi ds)) (shown_of (earlier ++ last ∷ []) bodies last)
+        → installed_after budget (packets_of s.tsi ds) ≡ Some (shown_of (earlier ++ last ∷ []) bodies last) }
 {}
 
 /// The numbers that the watchers of a receiver are told are those of the instances that are installed one after the other.

@@ -1,5 +1,6 @@
 -- The last instance of a catalog in the session that is planned of it.
-use Rattle.std.proofs.Common.{◌≡◌, ℕ, ◌+◌, ◌-◌, ◌<◌, ◌≤◌, Bool, true, false, ◌==◌, List, [], ◌∷◌, ◌++◌, Some, None, length, refl, sym, ap, subst, ◌∙◌, append_assoc, get_or, arith, inl, inr}
+use Rattle.std.proofs.Common.{◌≡◌, ℕ, ◌+◌, ◌-◌, ◌<◌, ◌≤◌, Bool, true, false, ◌==◌, List, [], ◌∷◌, ◌++◌, Some, None, length}
+use Rattle.std.proofs.Common.{refl, sym, ap, subst, ◌∙◌, append_assoc, get_or, arith, inl, inr}
 use Rattle.std.specs.Prelude.{All, map, slice_get, ◌⊎◌}
 use Rattle.std.specs.List.{list_any, position_or_len}
 use Rattle.std.specs.Str.{bytes_eq}
@@ -26,7 +27,8 @@ use Rattle.sender_plan.proofs.Sessions.{contents_more}
 use Rattle.sender_plan.proofs.Planned.{none_refuses, few_files, short_bodies}
 use Rattle.sender_plan.proofs.Apart.{one_identifier, other_identifiers, in_distinct}
 use Rattle.sender_plan.proofs.Distincts.{at_place, of_mapped, all_distinct, own_place, first_at, first_numbered}
-use Rattle.sender_plan.proofs.ReadBack.{ReadsBack, file_reads, descriptor_reads, contents_all, below_last, content_at, object_at, file_alike, descriptor_alike, descriptor_from}
+use Rattle.sender_plan.proofs.ReadBack.{ReadsBack, file_reads, descriptor_reads, contents_all, below_last, content_at, object_at}
+use Rattle.sender_plan.proofs.ReadBack.{file_alike, descriptor_alike, descriptor_from}
 
 each_there : (front cs back : List Content) → All (λ c. list_any (same c) (front ++ (cs ++ back)) ≡ true) cs
 each_there front [] back = All-nil (λ c. list_any (same c) (front ++ back) ≡ true)

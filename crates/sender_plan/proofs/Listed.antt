@@ -156,7 +156,8 @@ pub fit_listed : (text : List ℕ) (instances : List CatalogInstance) → readin
 unfolding reading
 fit_listed text instances is short = by (bad_line 1 0 (lines_of text)) refl is
   where
-    by : (bad : Option BadLine) → bad_line 1 0 (lines_of text) ≡ bad → unless_fault bad (instances_of (flat_map said (lines_of text))) ≡ Ok instances → All IsFit instances
+    by : (bad : Option BadLine) → bad_line 1 0 (lines_of text) ≡ bad → unless_fault bad (instances_of (flat_map said (lines_of text))) ≡ Ok instances
+        → All IsFit instances
     by None none is =
         let same : instances_of (flat_map said (lines_of text)) ≡ instances = cc in
         let has = instances_have IsSmall IsItem (flat_map said (lines_of text)) (fit_lines 1 0 (lines_of text) none) in

@@ -35,7 +35,7 @@ shown_among all body instance = record {
 abbrev pub shown_of : List CatalogInstance → List (List ℕ) → CatalogInstance → Shown
 shown_of instances bodies instance = shown_among (contents (body_of instances bodies) instances) (body_of instances bodies) instance
 
--- the session has an object with this identifier, which are counted from 1, and it reads as this
+-- the session has an object with this identifier, counted from 1, and it reads as this
 pub record Carries (s : Session) (toi : ℕ) (kind : Kind) : Type 0 where
   pub some : 1 ≤ toi
   pub object : SentObject
