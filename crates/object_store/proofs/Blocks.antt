@@ -17,7 +17,7 @@ use Rattle.rs_solve.specs.Solution.{missing, missing_below, row_at}
 use Rattle.wire_bytes.specs.Below.{count_below}
 use Rattle.wire_bytes.proofs.Public.{count_is_sum, sum_with, count_none, count_same}
 use Rattle.object_store.specs.Inner.BlockHeld.{held_in, sources_in, is_full, solving_steps, IsSource}
-use Rattle.object_store.specs.Inner.BlockRows.{row_entries, rows_map, symbol_row, rows_held, IsBlock, steps_when_full}
+use Rattle.object_store.specs.Inner.BlockRows.{row_entries, rows_map, symbol_row, rows_held, IsBlock, IsSolved, steps_when_full}
 use Rattle.wire_bytes.specs.Bytes.{zero_filled}
 use Rattle.rs_code.specs.SourceRows.{cut, IsSymbolRow}
 use Rattle.object_store.proofs.Nothing.{nothing_listed}
@@ -284,7 +284,7 @@ places_when_open k n size places bytes rows is full =
     fewer n m h = grind (arith, nat_tests)
 
 -- its rows are symbols of the source rows
-pub source_of : (k n size : ℕ) (places source : List ℕ) → IsBlock k n size places source → AreBytes source → length places ≡ k
+source_of : (k n size : ℕ) (places source : List ℕ) → IsBlock k n size places source → AreBytes source → length places ≡ k
     → IsSource (record { k = k; n = n; size = size; rows = rows_map size places (rows_held k size places source) }) source
 source_of k n size places source is are all = record {
   long = is.whole ∙ ap (λ (m : ℕ). m * size) all;
@@ -295,6 +295,14 @@ source_of k n size places source is are all = record {
       ∙ ap (λ (xs : List ℕ). row_at size xs s.at) (sym (held_when_full k size places source all)) ∙ sym s.is in
       subst (IsSymbolRow (cut k size source) size j) row_is
       (symbol_row_is k size j source (omega (arith, is.order, is.fits)) are);
+}
+
+pub solved_of : (k n size : ℕ) (places source : List ℕ) → IsBlock k n size places source → AreBytes source → length places ≡ k
+    → IsSolved (record { k = k; n = n; size = size; rows = rows_map size places (rows_held k size places source) }) places source
+solved_of k n size places source is are all = record {
+  many = all;
+  rows = ap (rows_map size places) (held_when_full k size places source all);
+  source = source_of k n size places source is are all;
 }
 
 -- ---- taken back

@@ -15,7 +15,7 @@ use Rattle.object_store.specs.Inner.ObjectHeld.{ObjectHeld, unopened, block_at, 
 use Rattle.object_store.proofs.WithPacket.{held_is_symbols, none_in}
 
 -- rows cut from the front of a longer list
-cut_front : (k size : ℕ) (xs ys : List ℕ) → k * size ≤ length xs → cut k size (xs ++ ys) ≡ cut k size xs
+pub cut_front : (k size : ℕ) (xs ys : List ℕ) → k * size ≤ length xs → cut k size (xs ++ ys) ≡ cut k size xs
 cut_front zero size xs ys le = refl
 cut_front (suc k) size xs ys le =
     let split : suc k * size ≡ size + k * size = omega arith in

@@ -22,6 +22,8 @@ pub mod Blocks
 pub mod Additions
 pub mod WithPacket
 pub mod Joining
+pub mod JoinedBlocks
+pub mod FoundJoined
 pub mod NewObject
 pub mod Stepped
 pub mod HeldView

@@ -7,6 +7,7 @@ use Rattle.std.proofs.lemmas.Nat.{mul-le}
 use Rattle.std.proofs.lemmas.List.{ext_get_or, get_or_default, drop-drop, length-append, length-drop, length-take, take_at, drop_at, take-append-drop}
 use Rattle.std.proofs.lemmas.List.FromFn.{get_or-map-range_with_len, length-map-range_with_len}
 use Rattle.gf256.specs.Polynomial.{AreBytes, power}
+use Rattle.wire_bytes.specs.Below.{list_below}
 use Rattle.rs_code.specs.Interpolation.{weighed}
 use Rattle.rs_code.specs.SourceRows.{cut, column, IsSymbolRow}
 use Rattle.rs_code.specs.Symbol.{IsSymbol}
@@ -101,6 +102,17 @@ row_of_symbols k size (suc i) bytes (p ∷ places) less =
   where
     row_at_of : ℕ → List ℕ → List ℕ
     row_at_of i xs = row_at size xs i
+
+-- the symbols are those of the rows alone
+row_by_cut : (k size j : ℕ) (xs ys : List ℕ) → cut k size xs ≡ cut k size ys → symbol_row k size xs j ≡ symbol_row k size ys j
+unfolding symbol_row
+row_by_cut k size j xs ys same = ap (λ (rs : List (List ℕ)). list_below size (λ at. weighed power k (column rs at) k (power j))) same
+
+pub symbols_by_cut : (k size : ℕ) (xs ys places : List ℕ) → cut k size xs ≡ cut k size ys → symbols_at k size xs places ≡ symbols_at k size ys places
+unfolding symbols_at
+symbols_by_cut k size xs ys [] same = refl
+symbols_by_cut k size xs ys (p ∷ places) same =
+    ap (λ (r : List ℕ). r ++ symbols_at k size xs places) (row_by_cut k size p xs ys same) ∙ ap (λ (r : List ℕ). symbol_row k size ys p ++ r) (symbols_by_cut k size xs ys places same)
 
 -- these are rows whose symbols they are
 symbols_are : (k size : ℕ) (bytes places rows : List ℕ) → length rows ≡ length places * size

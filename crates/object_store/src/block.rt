@@ -6,8 +6,8 @@ ghost use Rattle.std.specs.List.{position_from};
 ghost use Rattle.wire_bytes.specs.Bytes.{AreBytes, zero_filled};
 ghost use Rattle.rs_code.specs.Weights.{ArePlaces};
 ghost use Rattle.object_store.specs.declared.finding.Finding.TheVariants.{Full, Wanting};
-ghost use Rattle.object_store.specs.Inner.BlockRows.{rows_held, steps_when_full};
-ghost use Rattle.object_store.specs.Inner.BlockHeld.{BlockHeld, no_rows, held_in, is_full, with_symbol, solving_steps, finding_in, IsSource};
+ghost use Rattle.object_store.specs.Inner.BlockRows.{rows_held, IsSolved, steps_when_full};
+ghost use Rattle.object_store.specs.Inner.BlockHeld.{BlockHeld, no_rows, held_in, is_full, with_symbol, solving_steps, finding_in};
 
 use crate::difference::{compared, row_difference, symbol_difference};
 use crate::finding::Finding;
@@ -118,12 +118,12 @@ impl Block {
         }
     }
 
-    /// The source rows of a block with k symbols, one after another.
-    pub fn source(&self) -> &[u8]
+    /// The places of a block with k symbols, and its source rows, one after another.
+    pub fn solved(&self) -> (&[u8], &[u8])
         requires { is_full self.now ≡ true }
-        ensures { IsSource self.now result.now }
+        ensures { IsSolved self.now result.0.now result.1.now }
     {
-        all_bytes(self.rows.as_slice())
+        (self.places.as_slice(), all_bytes(self.rows.as_slice()))
     }
 }
 
@@ -207,7 +207,7 @@ fn all_bytes(bytes: &[u8]) -> &[u8]
 }
 
 /// Where a place stands among the places.
-fn position(places: &[u8], esi: u8) -> Option<usize>
+pub fn position(places: &[u8], esi: u8) -> Option<usize>
     ensures first { result ≡ position_from (λ p. p == esi) 0 places.now }
     ensures within { IfSome result (λ at. at < length places.now) }
 {

@@ -10,6 +10,7 @@ pub mod laws;
 mod object;
 mod objects;
 mod parts;
+mod ready;
 mod store;
 
 pub use kept::Kept;

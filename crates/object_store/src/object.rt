@@ -1,13 +1,14 @@
 //! An object of which symbols are held.
-ghost use Rattle.std.specs.Prelude.{◌≡◌, ◌≤◌, ◌+◌, ◌-◌, ◌*◌, ◌^◌, ◌++◌, [], false, true, min, length, if◌then◌else◌, vec_capacity, IfOk, IfNone, IfSome, OnOk, OnErr};
-ghost use Rattle.oti_blocks.specs.Partition.{IsSound, blocks, sources};
+ghost use Rattle.std.specs.Prelude.{◌≡◌, ◌≤◌, ◌+◌, ◌-◌, ◌*◌, ◌^◌, [], false, true, min, nat_lt, length, if◌then◌else◌, vec_capacity, IfOk, IfNone, IfSome, OnOk, OnErr};
+ghost use Rattle.oti_blocks.specs.Partition.{IsSound, blocks, sources, size_at};
 ghost use Rattle.alc_packet.specs.Packet.{IsPacket};
 ghost use Rattle.object_store.specs.Inner.ObjectHeld.{new_object, symbols_in, is_block_done, is_done, with_packet, steps_at, finding_at, Joins, AreRowsBelow, IsWholeOf};
-ghost use Rattle.object_store.specs.Inner.ObjectParts.{object_of, AreShaped};
+ghost use Rattle.object_store.specs.Inner.ObjectParts.{object_of, ready_object, AreShaped, AreWithin};
 
 use crate::block::Block;
 use crate::finding::Finding;
 use crate::parts::add_to_part;
+use crate::ready::{find_joined, join, reserve_when};
 use alc_packet::Packet;
 use oti_blocks::Oti;
 use rs_solve::Steps;
@@ -15,28 +16,29 @@ use std::alloc::{AllocError, Global};
 use std::collections::BTreeMap;
 use std::marker::Model;
 
-/// An object: its blocks of which a symbol is held, how many of all its blocks have fewer than k symbols, and its
-/// source rows once none has.
+/// An object: its blocks of which a symbol is held, and how many of all its blocks have fewer than k symbols. Once
+/// none has, the object keeps no blocks, but the places and the source rows of all of them, one block after another.
 #[derive(Drop)]
 pub struct Object {
     oti: Oti,
     parts: BTreeMap<u32, Block>,
     waiting: u32,
+    places: Vec<u8>,
     bytes: Vec<u8>,
 }
 
 impl Model for Object {
     ghost use Rattle.object_store.specs.Inner.ObjectHeld.{ObjectHeld};
-    ghost use Rattle.object_store.specs.Inner.ObjectParts.{map_of, object_of, IsObject};
+    ghost use Rattle.object_store.specs.Inner.ObjectParts.{object_seen, IsObject};
     ghost use Rattle.object_store.specs.Inner.Codes.{object_code};
 
     ghost Value = { ObjectHeld };
 
     ghost coded = { object_code };
 
-    ghost view = { λ a. record { oti = a.oti; parts = map_of a.parts } };
+    ghost view = { λ a. object_seen a.oti a.parts a.waiting a.places.items a.bytes.items };
 
-    ghost invariant = { λ a. IsObject (object_of a.oti a.parts) a.waiting a.bytes.items };
+    ghost invariant = { λ a. IsObject (object_seen a.oti a.parts a.waiting a.places.items a.bytes.items) a.waiting a.places.items a.bytes.items a.parts };
 }
 
 /// What a symbol made ready: its block, its object.
@@ -55,6 +57,7 @@ impl Object {
             oti,
             parts: BTreeMap::new(alloc),
             waiting: oti.blocks(),
+            places: Vec::new(alloc),
             bytes: Vec::new(alloc),
         }
     }
@@ -70,6 +73,9 @@ impl Object {
     pub fn held(&self, sbn: u32) -> u8
         ensures { result ≡ symbols_in self.now sbn }
     {
+        if self.waiting == 0 {
+            return size_of(&self.oti, sbn);
+        }
         match self.parts.get(&sbn) {
             Some(block) => block.len(),
             None => 0,
@@ -81,6 +87,9 @@ impl Object {
         requires { self.now.oti ≡ packet.now.oti }
         ensures { result ≡ finding_at self.now packet.now }
     {
+        if self.waiting == 0 {
+            return find_joined(packet, self.places.as_slice(), self.bytes.as_slice());
+        }
         match self.parts.get(&packet.sbn) {
             Some(block) => block.find(packet.esi, packet.symbol),
             None => Finding::Wanting(0),
@@ -118,10 +127,16 @@ impl Object {
         ensures uncounted { OnErr result (steps.new.count ≡ steps.old.count) }
     {
         let object = self.completes(packet);
-        reserve_rows(&mut self.bytes, &self.oti, object)?;
+        reserve_when(object, &self.oti, &mut self.places, &mut self.bytes)?;
         let block = add_to_part(&mut self.parts, *self.bytes.allocator(), packet, steps)?;
         self.waiting = fewer(self.waiting, block);
-        join_when(object, &self.parts, &self.oti, &mut self.bytes);
+        join_when(
+            object,
+            &mut self.parts,
+            &self.oti,
+            &mut self.places,
+            &mut self.bytes,
+        );
         Ok(Completed { block, object })
     }
 
@@ -139,6 +154,17 @@ impl Object {
     }
 }
 
+/// How many source symbols a block has, if it is one of the object.
+fn size_of(oti: &Oti, sbn: u32) -> u8
+    ensures { result ≡ (if nat_lt sbn (blocks oti.now) then size_at oti.now sbn else 0) }
+{
+    if sbn < oti.blocks() {
+        oti.block_k(sbn)
+    } else {
+        0
+    }
+}
+
 /// The object's length.
 fn length(oti: &Oti) -> usize
     ensures value { result ≡ oti.now.length }
@@ -146,13 +172,6 @@ fn length(oti: &Oti) -> usize
     ensures sound { IsSound oti.now }
 {
     oti.length as usize
-}
-
-/// The bytes of all source rows, zero fill counted.
-fn row_bytes(oti: &Oti) -> usize
-    ensures { result ≡ sources oti.now * oti.now.symbol }
-{
-    oti.sources() as usize * usize::from(oti.symbol)
 }
 
 /// One fewer, if the block is ready.
@@ -163,54 +182,31 @@ fn fewer(waiting: u32, block: bool) -> u32
     if block { waiting - 1 } else { waiting }
 }
 
-/// Takes the room for all source rows, if the object is ready.
-fn reserve_rows(bytes: &mut Vec<u8>, oti: &Oti, object: bool) -> Result<(), AllocError>
-    ensures same { bytes.new.items ≡ bytes.old.items }
-    ensures room { OnOk result (object ≡ true → bytes.old.items ≡ [] → sources oti.now * oti.now.symbol ≤ vec_capacity bytes.new) }
+/// Joins all blocks and lets go of them, if the object is ready.
+fn join_when(
+    object: bool,
+    parts: &mut BTreeMap<u32, Block>,
+    oti: &Oti,
+    places: &mut Vec<u8>,
+    bytes: &mut Vec<u8>,
+)
+    requires shaped { AreShaped (object_of oti.now parts.old) }
+    requires within { AreWithin (object_of oti.now parts.old) }
+    requires done { object ≡ is_done (object_of oti.now parts.old) }
+    requires none_placed { object ≡ true → places.old.items ≡ [] }
+    requires none_joined { object ≡ true → bytes.old.items ≡ [] }
+    requires room_placed { object ≡ true → sources oti.now ≤ vec_capacity places.old }
+    requires room_joined { object ≡ true → sources oti.now * oti.now.symbol ≤ vec_capacity bytes.old }
+    ensures same_parts { object ≡ false → parts.new.entries ≡ parts.old.entries }
+    ensures same_places { object ≡ false → places.new.items ≡ places.old.items }
+    ensures same_bytes { object ≡ false → bytes.new.items ≡ bytes.old.items }
+    ensures parts { object ≡ true → ready_object oti.now places.new.items bytes.new.items ≡ object_of oti.now parts.old }
+    ensures placed { object ≡ true → length places.new.items ≡ sources oti.now }
+    ensures joined { object ≡ true → AreRowsBelow (object_of oti.now parts.old) (blocks oti.now) bytes.new.items }
+    ensures released { object ≡ true → parts.new.entries ≡ [] }
 {
     if object {
-        bytes.reserve(row_bytes(oti))?;
+        join(parts, oti, places, bytes);
+        *parts = BTreeMap::new(*bytes.allocator());
     }
-    Ok(())
-}
-
-/// Joins the source rows of all blocks, if the object is ready.
-fn join_when(object: bool, parts: &BTreeMap<u32, Block>, oti: &Oti, bytes: &mut Vec<u8>)
-    requires shaped { AreShaped (object_of oti.now parts.now) }
-    requires done { object ≡ is_done (object_of oti.now parts.now) }
-    requires none { object ≡ true → bytes.old.items ≡ [] }
-    requires room { object ≡ true → sources oti.now * oti.now.symbol ≤ vec_capacity bytes.old }
-    ensures same { object ≡ false → bytes.new.items ≡ bytes.old.items }
-    ensures joined { object ≡ true → AreRowsBelow (object_of oti.now parts.now) (blocks oti.now) bytes.new.items }
-{
-    if object {
-        join(parts, oti, bytes);
-    }
-}
-
-/// Joins the source rows of all blocks, each of which has k symbols, in the room that was taken for them.
-fn join(parts: &BTreeMap<u32, Block>, oti: &Oti, bytes: &mut Vec<u8>)
-    requires shaped { AreShaped (object_of oti.now parts.now) }
-    requires done { is_done (object_of oti.now parts.now) ≡ true }
-    requires none { bytes.old.items ≡ [] }
-    requires room { sources oti.now * oti.now.symbol ≤ vec_capacity bytes.old }
-    ensures { AreRowsBelow (object_of oti.now parts.now) (blocks oti.now) bytes.new.items }
-{
-    for sbn in 0..oti.blocks() {
-        match parts.get(&sbn) {
-            Some(block) => append_within(bytes, block.source()),
-            None => {}
-        }
-    }
-}
-
-/// Appends where there is room.
-fn append_within(bytes: &mut Vec<u8>, more: &[u8])
-    requires { length bytes.old.items + length more.now ≤ vec_capacity bytes.old }
-    ensures items { bytes.new.items ≡ bytes.old.items ++ more.now }
-    ensures room { vec_capacity bytes.old ≤ vec_capacity bytes.new }
-{
-    let Ok(()) = bytes.extend_from_slice(more) else {
-        unreachable!()
-    };
 }

@@ -2,7 +2,7 @@
 ghost use Rattle.std.specs.Prelude.{◌≡◌, ◌+◌, ◌-◌, ◌^◌, true, false, min, is_some, Some, IfOk, OnOk, OnErr};
 ghost use Rattle.std.specs.Ordering.{nat_cmp};
 ghost use Rattle.std.specs.BTreeMap.{get, Updates};
-ghost use Rattle.object_store.specs.Inner.ObjectHeld.{is_block_done, is_done, with_packet, steps_at, Joins};
+ghost use Rattle.object_store.specs.Inner.ObjectHeld.{new_object, is_block_done, is_done, with_packet, steps_at, Joins};
 ghost use Rattle.object_store.specs.Inner.Objects.{object_in};
 
 use crate::object::{Completed, Object};
@@ -80,8 +80,26 @@ fn open<L>(
     let Entry::Vacant(place) = objects.entry(packet.toi)? else {
         return Err(AllocError);
     };
-    let mut object = Object::new(alloc, packet.oti);
-    let completed = object.add(packet, steps)?;
+    let (object, completed) = begun(alloc, packet, steps)?;
     place.insert(object);
     Ok(completed)
+}
+
+/// An object with its first symbol.
+fn begun<L>(
+    alloc: Global,
+    packet: &Packet<'_>,
+    steps: &mut Steps<L>,
+) -> Result<(Object, Completed), AllocError>
+    requires { Joins (new_object packet.now.oti) packet.now }
+    ensures ok { IfOk result (λ r. r.0 ≡ with_packet (new_object packet.now.oti) packet.now) }
+    ensures block { IfOk result (λ r. r.1.block ≡ is_block_done (with_packet (new_object packet.now.oti) packet.now) packet.now.sbn) }
+    ensures object { IfOk result (λ r. r.1.object ≡ is_done (with_packet (new_object packet.now.oti) packet.now)) }
+    ensures count { OnOk result (steps.new.count ≡ min (steps.old.count + steps_at (with_packet (new_object packet.now.oti) packet.now) packet.now.sbn) (2 ^ 64 - 1)) }
+    ensures ledger { steps.new.ledger ≡ steps.old.ledger }
+    ensures uncounted { OnErr result (steps.new.count ≡ steps.old.count) }
+{
+    let mut object = Object::new(alloc, packet.oti);
+    let completed = object.add(packet, steps)?;
+    Ok((object, completed))
 }

@@ -7,6 +7,7 @@ use Rattle.gf256.specs.Polynomial.{AreDifferent, power}
 use Rattle.rs_code.specs.Interpolation.{weighed}
 use Rattle.rs_code.specs.SourceRows.{cut, column}
 use Rattle.rs_solve.specs.Solution.{missing}
+use Rattle.object_store.specs.Inner.BlockHeld.{BlockHeld, IsSource}
 
 -- each place with its row
 abbrev pub row_entries : ℕ → List ℕ → List ℕ → List (ℕ × List ℕ)
@@ -40,6 +41,12 @@ pub record IsBlock (k n size : ℕ) (places bytes : List ℕ) : Type 0 where
   pub below : All (λ p. p < n) places
   pub different : AreDifferent places
   pub whole : length bytes ≡ length places * size
+
+-- a block with k symbols: these are its places, and its rows are the symbols of these source rows
+pub record IsSolved (h : BlockHeld) (places bytes : List ℕ) : Type 0 where
+  pub many : length places ≡ h.k
+  pub rows : h.rows ≡ rows_map h.size places (symbols_at h.k h.size bytes places)
+  pub source : IsSource h bytes
 
 -- the row steps of solving k places
 abbrev pub steps_when_full : ℕ → List ℕ → ℕ

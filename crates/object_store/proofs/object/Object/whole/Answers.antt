@@ -4,7 +4,7 @@ use Rattle.std.proofs.lemmas.List.{length-take}
 use Rattle.std.proofs.lemmas.Bool.Decides.{nat_tests}
 use Rattle.oti_blocks.specs.Partition.{blocks}
 use Rattle.object_store.specs.Inner.ObjectHeld.{ObjectHeld, is_done, is_block_done, IsWholeOf}
-use Rattle.object_store.specs.Inner.ObjectParts.{object_of}
+use Rattle.object_store.specs.Inner.ObjectParts.{object_seen}
 use Rattle.object_store.proofs.WithPacket.{none_waits}
 use Rattle.object_store.proofs.Joining.{rows_cover}
 use Rattle.object_store.proofs.object.Object.whole.Goals as goal
@@ -18,7 +18,7 @@ waits_some w e = grind (arith, nat_tests)
 pub slice_bounds-result-end : goal.slice_bounds-result-end
 slice_bounds-result-end c =
     let v = c.self.inside in
-    let o = object_of v.oti v.parts in
+    let o = object_seen v.oti v.parts v.waiting v.places.items v.bytes.items in
     let done : is_done o ≡ true = none_waits (blocks o.oti) v.waiting (is_block_done o) c.self.invariant.counted ∙ waits_none v.waiting c.if-self-eq0.true in
     let cover = rows_cover o v.bytes.items c.length.ensures.sound (c.self.invariant.joined done) in
     omega (arith, length-take c.length.result c.as_slice.result.now, cover, c.length.ensures.value, ap length c.as_slice.ensures.value)
@@ -26,7 +26,7 @@ slice_bounds-result-end c =
 pub returns-then-self-eq0-clause-whole : goal.returns-then-self-eq0-clause-whole
 returns-then-self-eq0-clause-whole c =
     let v = c.self.inside in
-    let o = object_of v.oti v.parts in
+    let o = object_seen v.oti v.parts v.waiting v.places.items v.bytes.items in
     let done : is_done o ≡ true = none_waits (blocks o.oti) v.waiting (is_block_done o) c.self.invariant.counted ∙ waits_none v.waiting c.if-self-eq0.true in
     subst (λ (u : ObjectHeld). IsWholeOf u (take c.length.result c.as_slice.result.now)) c.self.view_is
     (record {
@@ -40,5 +40,5 @@ returns-then-self-eq0-clause-whole c =
 pub returns-else-self-eq0-clause-waits : goal.returns-else-self-eq0-clause-waits
 returns-else-self-eq0-clause-waits c =
     let v = c.self.inside in
-    let o = object_of v.oti v.parts in
+    let o = object_seen v.oti v.parts v.waiting v.places.items v.bytes.items in
     sym (ap is_done c.self.view_is) ∙ none_waits (blocks o.oti) v.waiting (is_block_done o) c.self.invariant.counted ∙ waits_some v.waiting c.if-self-eq0.false
