@@ -33,7 +33,7 @@ pub fn row_difference(row: &[u8], symbol: &[u8]) -> Option<u16>
 }
 
 /// The first byte in which symbol `esi` of `k` source rows and a symbol with zeros behind it differ. It takes no
-/// memory: a repair symbol is made byte by byte, up to that byte.
+/// memory: a repair symbol is made piece by piece, up to that byte.
 pub fn symbol_difference(k: u8, size: u16, source: &[u8], esi: u8, symbol: &[u8]) -> Option<u16>
     requires some { 1 ≤ k }
     requires size { 1 ≤ size }

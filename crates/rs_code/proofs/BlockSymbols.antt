@@ -1,5 +1,5 @@
 -- The weighed bytes of a block's columns, and the symbols that they are.
-use Rattle.std.proofs.Common.{◌≡◌, ℕ, ◌<◌, ◌≤◌, List, get_or, length, sym, ap, ◌∙◌, subst, arith}
+use Rattle.std.proofs.Common.{◌≡◌, ℕ, ◌+◌, ◌-◌, ◌<◌, ◌≤◌, List, get_or, length, sym, ap, ◌∙◌, subst, arith}
 use Rattle.std.specs.List.{range_with_len}
 use Rattle.std.proofs.lemmas.List.FromFn.{length-range_with_len}
 use Rattle.gf256.specs.Polynomial.{value, AreBytes}
@@ -42,3 +42,14 @@ row_is_symbol rows at i n v are count ln within less is =
     let s : List ℕ = column (rows_of rows) at in
     let len : length (column (rows_of rows) at) ≡ n = length-column rows.k rows.size at rows.bytes ∙ sym count in
     subst (λ (t : ℕ). IsSymbol s i t) (sym is) (source_is_symbol s i (block_column_bytes rows at are within) (omega arith) (omega arith))
+
+-- bytes that are those of a piece of a symbol are the symbol's
+pub bytes_of_piece : (rows : Rows) (start j n : ℕ) (piece bytes : List ℕ) → n ≤ length piece
+    → ((i : ℕ) → i < length piece → IsSymbol (column (rows_of rows) (start + i)) j (get_or piece i 0))
+    → ((i : ℕ) → i < n → get_or piece i 0 ≡ get_or bytes (start + i) 0)
+    → (at : ℕ) → start ≤ at → at < start + n → IsSymbol (column (rows_of rows) at) j (get_or bytes at 0)
+bytes_of_piece rows start j n piece bytes le are same at from less =
+    let m : ℕ = at - start in
+    let there : start + m ≡ at = omega (arith, from) in
+    subst (λ (a : ℕ). IsSymbol (column (rows_of rows) a) j (get_or bytes a 0)) there
+    (subst (IsSymbol (column (rows_of rows) (start + m)) j) (same m (omega (arith, from, less))) (are m (omega (arith, from, less, le))))

@@ -75,6 +75,24 @@ fn first_differences_from_symbols(rt: HostRuntime) {
 }
 
 #[test]
+fn first_differences_from_a_long_symbol(rt: HostRuntime) {
+    let mut rows = [0x11; 300];
+    for i in 0..150u8 {
+        rows[usize::from(i)] = i;
+    }
+    let block = Block::new(2, 150, &rows);
+    let mut symbol = [0xEE; 150];
+    symbol_into(&block, 2, &mut symbol);
+    assert_eq!(rt; first_difference(&block, 2, &symbol), None);
+    for at in [0u8, 1, 63, 64, 127, 128, 149] {
+        let mut other = symbol;
+        other[usize::from(at)] ^= 1;
+        other[149] ^= 2;
+        assert_eq!(rt; first_difference(&block, 2, &other), Some(usize::from(at)));
+    }
+}
+
+#[test]
 fn one_row_repeats(rt: HostRuntime) {
     let block = Block::new(1, 1, &[0xA7]);
     for esi in 0..3u8 {
