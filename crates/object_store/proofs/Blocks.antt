@@ -105,18 +105,6 @@ pub rows_of_none : (size : ℕ) (places rows : List ℕ) → places ≡ [] → r
 unfolding rows_map
 rows_of_none size places rows none = ap (λ (ps : List ℕ). from_entries (row_entries size ps rows)) none
 
-pub block_of_none : (k n size : ℕ) → 1 ≤ k → k ≤ n → n ≤ 255 → 1 ≤ size → IsBlock k n size [] []
-block_of_none k n size some order fits wide = record {
-  some = some;
-  wide = wide;
-  order = order;
-  fits = fits;
-  most = omega arith;
-  below = λ i d less. absurd (omega arith);
-  different = λ i j d less lt. absurd (omega arith);
-  whole = omega arith;
-}
-
 -- ---- how many rows
 
 -- each place counts once

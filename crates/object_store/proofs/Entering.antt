@@ -1,5 +1,5 @@
 -- A new packet enters the objects.
-use Rattle.std.proofs.Common.{◌≡◌, ℕ, ◌+◌, ◌-◌, ◌*◌, ◌≤◌, Bool, true, List, [], ◌∷◌, ◌++◌, refl, sym, ap, subst, ◌∙◌, arith, Option, Some, None, option_map}
+use Rattle.std.proofs.Common.{◌≡◌, ℕ, ◌+◌, ◌-◌, ◌*◌, Bool, true, List, [], ◌∷◌, ◌++◌, refl, sym, ap, subst, ◌∙◌, arith, Option, Some, None, option_map}
 use Rattle.std.specs.Prelude.{if◌then◌else◌, unwrap_or}
 use Rattle.std.specs.Ordering.{nat_cmp}
 use Rattle.std.specs.FinMap.{FinMap, get, insert}
@@ -152,7 +152,3 @@ store_with budget count added m more p ready block object holds is new adds upda
     held_is : held_of (map_of more) ≡ joined held p
     held_is = ap held_of (map_updated m more p.toi (with_packet (object_in m p) p) updates
         ∙ ap (λ (o : ObjectHeld). insert (map_of m) p.toi (with_packet o p)) (in_tree m p)) ∙ entry.held
-
--- the room that the verdict New leaves
-pub within_budget : (budget : ℕ) (held : Held) (p : SymbolPacket) → is_new (verdict budget held p) ≡ true → byte_count held + charge held p ≤ budget
-within_budget budget held p is = (new_says budget held p is).room

@@ -1,5 +1,5 @@
 -- The blocks of an object that is ready, one after another.
-use Rattle.std.proofs.Common.{◌≡◌, ◌≢◌, ℕ, zero, suc, ◌+◌, ◌*◌, ◌<◌, ◌≤◌, Bool, true, false, cond, List, [], ◌++◌, length, map}
+use Rattle.std.proofs.Common.{◌≡◌, ◌≢◌, ℕ, zero, suc, ◌+◌, ◌*◌, ◌<◌, ◌≤◌, Bool, true, false, cond, List, ◌++◌, length, map}
 use Rattle.std.proofs.Common.{take, drop, refl, sym, ap, subst, ◌∙◌, arith, Option, Some, None, eqb-true, inl, inr}
 use Rattle.std.specs.Prelude.{◌==◌, nat_le, nat_lt, if◌then◌else◌, is_some, unwrap_or}
 use Rattle.std.specs.List.{range_with_len}
@@ -101,9 +101,6 @@ joined_end o n h places held bytes source placed joined shaped is =
     let row_is : source ≡ rows_from o (bytes ++ source) n = sym (drop_at bytes source (start_at o n * o.symbol) joined) in
     let rows_are = is.rows ∙ (λ i. rows_map (shaped.size i) (place_is i) (symbols_at (shaped.k i) (shaped.size i) (row_is i) (place_is i))) in
     λ i. record { k = shaped.k i; n = shaped.n i; size = shaped.size i; rows = rows_are i }
-
-pub none_joined_below : (o : ObjectHeld) (places bytes : List ℕ) → places ≡ [] → AreJoinedBelow o 0 places bytes
-none_joined_below o places bytes none = record { many = ap length none; same = λ b less. absurd (omega arith) }
 
 pub joined_next : (o : ObjectHeld) (n : ℕ) (h : BlockHeld) (places held bytes source : List ℕ) → IsSound o.oti → n < blocks o.oti → AreJoinedBelow o n places bytes
     → AreRowsBelow o n bytes → block_at o n ≡ h → IsShaped o.oti n h → IsSolved h held source → AreJoinedBelow o (n + 1) (places ++ held) (bytes ++ source)

@@ -1,5 +1,5 @@
 -- The source rows of an object's blocks, one block after another.
-use Rattle.std.proofs.Common.{◌≡◌, ℕ, zero, suc, ◌+◌, ◌*◌, ◌<◌, ◌≤◌, true, false, List, [], ◌∷◌, ◌++◌, length}
+use Rattle.std.proofs.Common.{◌≡◌, ℕ, zero, suc, ◌+◌, ◌*◌, ◌<◌, ◌≤◌, true, false, List, ◌∷◌, ◌++◌, length}
 use Rattle.std.proofs.Common.{take, drop, refl, sym, ap, subst, ◌∙◌, arith, Some, eqb-true}
 use Rattle.std.specs.Prelude.{◌==◌, nat_le}
 use Rattle.std.specs.FinMap.{get}
@@ -24,13 +24,6 @@ cut_front (suc k) size xs ys le =
     ap (λ (r : List ℕ). r ∷ cut k size (drop size (xs ++ ys))) (take-append-le size xs ys first)
     ∙ ap (λ (r : List ℕ). take size xs ∷ cut k size r) (drop-append-le size xs ys first)
     ∙ ap (λ (rs : List (List ℕ)). take size xs ∷ rs) (cut_front k size (drop size xs) ys rest)
-
--- none yet
-pub no_rows_below : (o : ObjectHeld) (bytes : List ℕ) → bytes ≡ [] → AreRowsBelow o 0 bytes
-no_rows_below o bytes none = record {
-  long = ap length none ∙ (let z : 0 ≡ 0 * o.oti.symbol = omega arith in z);
-  symbols = λ b j row less found. absurd (omega arith);
-}
 
 -- one block more
 pub rows_next : (o : ObjectHeld) (n : ℕ) (h : BlockHeld) (bytes source : List ℕ) → IsSound o.oti

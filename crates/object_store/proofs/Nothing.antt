@@ -7,7 +7,7 @@ use Rattle.std.specs.FinMap.{get, entries, len-empty, len-entries, get-empty}
 use Rattle.oti_blocks.specs.Partition.{ObjectInformation, encoding_at}
 use Rattle.wire_bytes.proofs.Public.{count_none}
 use Rattle.object_store.specs.Held.{nothing_held, place, place_cmp, row_at, is_held, symbols_held}
-use Rattle.object_store.specs.Store.{IsListed, held_in_block}
+use Rattle.object_store.specs.Store.{IsListed}
 use Rattle.object_store.specs.HeldPair.{IsHeldPair}
 use Rattle.object_store.specs.Count.{byte_count, object_count}
 use Rattle.object_store.specs.Whole.{whole, bytes_when_ready}
@@ -30,9 +30,6 @@ nothing_open t = get-empty nat_cmp t
 pub nothing_whole : (t : ℕ) → whole nothing_held t ≡ None
 unfolding whole
 nothing_whole t = ap (bytes_when_ready nothing_held t) (nothing_open t)
-
-pub nothing_in_block : (t b : ℕ) → 0 ≡ held_in_block nothing_held t b (get nothing_held.objects t)
-nothing_in_block t b = ap (λ o. held_in_block nothing_held t b o) (sym (nothing_open t))
 
 pub nothing_listed_ready : IsListed nothing_held []
 nothing_listed_ready = record { listed = λ t. ap is_some (nothing_whole t); different = refl }
