@@ -41,7 +41,7 @@ pub fn symbol_into(block: &Block<'_>, esi: u8, out: &mut [u8])
 }
 
 /// The first byte place at which symbol `esi` of the block differs from these bytes with zeros behind them. The
-/// symbol is made in pieces of 64 bytes, up to the one that differs.
+/// symbol is made in pieces of 512 bytes, up to the one that differs.
 pub fn first_difference(block: &Block<'_>, esi: u8, bytes: &[u8]) -> Option<usize>
     requires { esi < 255 }
     ensures before { (at : ℕ) → at < unwrap_or result block.now.size → IsSymbol (column (rows_of block.now) at) esi (slice_index bytes.now at) }
@@ -51,7 +51,7 @@ pub fn first_difference(block: &Block<'_>, esi: u8, bytes: &[u8]) -> Option<usiz
     block.weights(esi, &mut weights);
     let mut start = 0;
     while start < block.size() {
-        let len = (block.size() - start).min(64);
+        let len = (block.size() - start).min(512);
         if let Some(at) = difference_in(block, weights.as_slice(), start, len, bytes) {
             return Some(at);
         }
@@ -69,7 +69,7 @@ fn difference_in(
     bytes: &[u8],
 ) -> Option<usize>
     requires count { length weights.now ≡ block.now.k }
-    requires short { len ≤ 64 }
+    requires short { len ≤ 512 }
     requires part { start + len ≤ block.now.size }
     ensures before { (esi : ℕ) → AreWeights (range_with_len 0 block.now.k) esi weights.now
         → (at : ℕ) → start ≤ at → at < unwrap_or result (start + len) → IsSymbol (column (rows_of block.now) at) esi (slice_index bytes.now at) }
@@ -77,7 +77,7 @@ fn difference_in(
         → IfSome result (λ at. (at < start + len) × (IsSymbol (column (rows_of block.now) at) esi (slice_index bytes.now at) → ⊥)) }
 {
     let _size = block.size();
-    let mut room = [0; 64];
+    let mut room = [0; 512];
     let piece = &mut room[..len];
     weigh_rows(block, weights, start, piece);
     for i in 0..len {

@@ -75,21 +75,23 @@ fn first_differences_from_symbols(rt: HostRuntime) {
 }
 
 #[test]
-fn first_differences_from_a_long_symbol(rt: HostRuntime) {
-    let mut rows = [0x11; 300];
-    for i in 0..150u8 {
-        rows[usize::from(i)] = i;
+fn first_differences_from_a_long_symbol(rt: HostRuntime) -> Result<(), Fail> {
+    let mut rows = Vec::new(rt.alloc());
+    for i in 0..2200usize {
+        rows.push((i % 251) as u8)?;
     }
-    let block = Block::new(2, 150, &rows);
-    let mut symbol = [0xEE; 150];
+    let mut symbol = Vec::new(rt.alloc());
+    symbol.resize(1100, 0)?;
+    assert!(rt; rows.len() == 2200 && symbol.len() == 1100);
+    let block = Block::new(2, 1100, &rows);
     symbol_into(&block, 2, &mut symbol);
     assert_eq!(rt; first_difference(&block, 2, &symbol), None);
-    for at in [0u8, 1, 63, 64, 127, 128, 149] {
-        let mut other = symbol;
-        other[usize::from(at)] ^= 1;
-        other[149] ^= 2;
-        assert_eq!(rt; first_difference(&block, 2, &other), Some(usize::from(at)));
+    // The symbol is made in pieces, which end before these places or after them.
+    for at in [1099usize, 1024, 1023, 512, 511, 1, 0] {
+        symbol[at] ^= 1;
+        assert_eq!(rt; first_difference(&block, 2, &symbol), Some(at));
     }
+    Ok(())
 }
 
 #[test]
