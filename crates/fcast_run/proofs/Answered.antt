@@ -51,7 +51,7 @@ done_of p s passes datagrams text shelf memory = record {
 pub done_at_end : (s : ℕ) → is_at_end s ≡ true → IsDone s
 done_at_end s at_end = done_of is_at_end s at_end refl refl refl refl
 
-not_done : (f : Fault) (result : ℕ) → result ≡ status_of f → IsDone result → ⊥
+pub not_done : (f : Fault) (result : ℕ) → result ≡ status_of f → IsDone result → ⊥
 not_done Datagrams result is done = done.datagrams is
 not_done Text result is done = done.text is
 not_done Shelf result is done = done.shelf is

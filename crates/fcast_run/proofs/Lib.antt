@@ -9,7 +9,9 @@ pub mod EventLists
 pub mod Headline
 pub mod Installing
 pub mod LastInstance
+pub mod Listened
 pub mod Lists
+pub mod Noted
 pub mod Ranges
 pub mod Sends
 pub mod SentSession

@@ -17,7 +17,7 @@ use Rattle.fcast_words.specs.declared.command_word.CommandWord.{CommandWord}
 use Rattle.fcast_words.specs.declared.command_word.CommandWord.TheVariants as word
 use Rattle.fcast_run.specs.Commands as specs
 use Rattle.fcast_run.specs.Commands.{task_of, receiving_in, send_in, receiving_of, send_of, sending_of}
-use Rattle.fcast_run.specs.Inner.Ranges.{AreReceiving, AreSending, HasNumbers, IsPort, IsCount, IfInRange, IfSending}
+use Rattle.fcast_run.specs.Inner.Ranges.{AreReceiving, AreSending, HasNumbers, IsPort, IsCount, IfInRange, IfListening, IfSending}
 
 abbrev IfNumbers : Option Command → Type 0
 IfNumbers None = Unit {0}
@@ -203,3 +203,30 @@ of_sending (Some (commands.Listen tsi budget most addr port count readers)) has 
 -- a plan can be made with what a send is told
 pub sending_in_range : (words : List (List ℕ)) → IfSending (send_of words)
 sending_in_range words = of_sending (command_of words) (numbers words)
+
+-- ---- listen
+
+from_source : (tsi budget most readers : ℕ) (addr : Option (List ℕ)) (port count : Option ℕ)
+    → HasNumbers (commands.Listen tsi budget most addr port count readers)
+    → IfListening (specs.listening_in (commands.Listen tsi budget most addr port count readers))
+from_source tsi budget most readers None None None has =
+    (record { tsi = has.0.tsi_to; least = has.0.least; most = has.0.most; limit = has.1 }, has.4)
+from_source tsi budget most readers (Some addr) (Some port) (Some count) has =
+    (record { tsi = has.0.tsi_to; least = has.0.least; most = has.0.most; limit = has.3 count refl }, has.4)
+from_source tsi budget most readers None None (Some count) has = tt
+from_source tsi budget most readers None (Some port) count has = tt
+from_source tsi budget most readers (Some addr) None count has = tt
+from_source tsi budget most readers (Some addr) (Some port) None has = tt
+
+of_listening : (o : Option Command) → IfNumbers o → IfListening (option_and_then specs.listening_in o)
+of_listening None has = tt
+of_listening (Some (commands.Replay tsi budget most)) has = tt
+of_listening (Some (commands.Recv tsi budget addr port count)) has = tt
+of_listening (Some (commands.Send catalog addr port symbol block maxn cycles tsi)) has = tt
+of_listening (Some (commands.Dump most)) has = tt
+of_listening (Some (commands.Drill start)) has = tt
+of_listening (Some (commands.Listen tsi budget most addr port count readers)) has = from_source tsi budget most readers addr port count has
+
+-- what a listening is told
+pub listening_in_range : (words : List (List ℕ)) → IfListening (specs.listening_of words)
+listening_in_range words = of_listening (command_of words) (numbers words)

@@ -1,7 +1,7 @@
 -- What an audience is shown of a list of datagrams.
-use Rattle.std.proofs.Common.{◌≡◌, ℕ, ◌+◌, ◌≤◌, List, [], ◌∷◌, ◌++◌, ◌∙◌, refl, sym, ap, subst, arith, length, take, map, Option, Some, None, append_assoc, length-append}
+use Rattle.std.proofs.Common.{◌≡◌, ℕ, ◌+◌, ◌≤◌, List, [], ◌∷◌, ◌++◌, ◌∙◌, refl, sym, ap, subst, arith, length, take, map, Option, Some, None, length-append}
 use Rattle.std.specs.Prelude.{option_map}
-use Rattle.std.specs.List.{All, fold, cons_option, filter_map}
+use Rattle.std.specs.List.{fold, cons_option}
 use Rattle.std.proofs.lemmas.List.{append-nil}
 use Rattle.std.proofs.lemmas.List.Elements.{All-append, All-cons, All-nil, filter_map-append}
 use Rattle.wire_bytes.specs.Bytes.{AreBytes}

@@ -1,4 +1,4 @@
--- The commands that a run does so far.
+-- The commands that are done: five of them by `run`, and `listen` by `run_listen`.
 use Rattle.std.specs.Prelude.{Bool, ℕ, List, Option, Some, None, option_and_then, option_map, is_some}
 use Rattle.fcast_words.specs.Words.{command_of}
 use Rattle.fcast_words.specs.declared.command.Command.{Command}
@@ -6,6 +6,7 @@ use Rattle.fcast_words.specs.declared.command.Command.TheVariants.{Replay, Recv,
 use Rattle.edge_io.specs.declared.place.Place.{Place}
 use Rattle.edge_io.specs.declared.place.Place.TheVariants.{Log, Udp}
 use Rattle.fcast_run.specs.declared.bound.Bound.TheVariants.{Most, Count}
+use Rattle.fcast_run.specs.declared.listen.listening.Listening.{Listening}
 use Rattle.fcast_run.specs.declared.sending.Sending.{Sending}
 use Rattle.fcast_run.specs.declared.settings.Settings.{Settings}
 use Rattle.fcast_run.specs.declared.task.Task.{Task}
@@ -26,7 +27,7 @@ sending_of catalog symbol block maxn cycles tsi place =
       params = record { tsi = tsi; symbol = symbol; max_block = block; max_n = maxn; cycles = cycles };
     })
 
--- what a command is to do, where it is built
+-- what a command is to do, where it is one of the five of `run`
 abbrev pub task_of : Command → Option Task
 task_of (Replay tsi budget most) = Some (tasks.Receive (record { tsi = tsi; budget = budget; place = Log; bound = Most most }))
 task_of (Recv tsi budget addr port count) = Some (tasks.Receive (record { tsi = tsi; budget = budget; place = Udp addr port; bound = Count count }))
@@ -40,7 +41,7 @@ task_of (Listen tsi budget most addr port count readers) = None
 abbrev pub task_in : List (List ℕ) → Option Task
 task_in words = option_and_then task_of (command_of words)
 
--- the words are a command that is built
+-- the words are one of the five commands of `run`
 abbrev pub is_command : List (List ℕ) → Bool
 is_command words = is_some (task_in words)
 
@@ -83,3 +84,25 @@ send_of words = option_and_then send_in (task_in words)
 -- the number that the drill starts with, where the words are one
 abbrev pub drill_of : List (List ℕ) → Option ℕ
 drill_of words = option_and_then drill_in (task_in words)
+
+-- ---- listen
+
+-- without an address, a port and a count a listening is a replay, and with all three it receives over UDP
+abbrev pub listened : ℕ → ℕ → ℕ → Option (List ℕ) → Option ℕ → Option ℕ → Option Settings
+listened tsi budget most None None None = Some (record { tsi = tsi; budget = budget; place = Log; bound = Most most })
+listened tsi budget most (Some addr) (Some port) (Some count) =
+    Some (record { tsi = tsi; budget = budget; place = Udp addr port; bound = Count count })
+listened tsi budget most addr port count = None
+
+abbrev pub listening_in : Command → Option Listening
+listening_in (Replay tsi budget most) = None
+listening_in (Recv tsi budget addr port count) = None
+listening_in (Send catalog addr port symbol block maxn cycles tsi) = None
+listening_in (Dump most) = None
+listening_in (Drill start) = None
+listening_in (Listen tsi budget most addr port count readers) =
+    option_map (λ settings. record { settings = settings; readers = readers }) (listened tsi budget most addr port count)
+
+-- the listening that the words are, where they are one
+abbrev pub listening_of : List (List ℕ) → Option Listening
+listening_of words = option_and_then listening_in (command_of words)

@@ -15,6 +15,10 @@ is_base s = is_one_of (0 ∷ 2 ∷ 3 ∷ 7 ∷ 11 ∷ []) s
 abbrev pub is_status : ℕ → Bool
 is_status s = is_one_of (0 ∷ 1 ∷ 2 ∷ 3 ∷ 4 ∷ 5 ∷ 6 ∷ 7 ∷ 8 ∷ 9 ∷ 10 ∷ 11 ∷ 12 ∷ []) s
 
+-- the statuses of a listening
+abbrev pub is_listen_status : ℕ → Bool
+is_listen_status s = is_one_of (0 ∷ 1 ∷ 2 ∷ 3 ∷ 4 ∷ 5 ∷ 6 ∷ 7 ∷ 9 ∷ 11 ∷ []) s
+
 -- those at which the shelf isn't touched, whatever is told
 abbrev pub is_apart : ℕ → Bool
 is_apart s = is_one_of (1 ∷ 2 ∷ 3 ∷ 4 ∷ 11 ∷ []) s

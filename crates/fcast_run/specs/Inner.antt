@@ -4,3 +4,5 @@ pub mod Ranges
 pub mod Sends
 pub mod Tellings
 pub mod Showings
+pub mod Noted
+pub mod Listens

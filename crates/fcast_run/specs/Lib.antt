@@ -9,4 +9,5 @@ pub mod LastInstance
 pub mod Drill
 pub mod Headline
 pub mod Events
+pub mod Listen
 pub mod Inner

@@ -1,4 +1,4 @@
-//! The commands that are built.
+//! The five commands of `run`.
 ghost use Rattle.std.specs.Prelude.{◌≡◌, IfOk, is_some, option_and_then};
 ghost use Rattle.std.specs.Option.{ForSome};
 ghost use Rattle.edge_io.specs.declared.place.Place.TheVariants.{Udp};
@@ -15,7 +15,7 @@ use meta_text::Label;
 use sender_plan::Params;
 use std::alloc::{AllocError, Global};
 
-/// What the words are to do. None: they are no command that is built.
+/// What the words are to do. None: they are none of these commands.
 #[tactic(auto, using(crate::proofs::Ranges::has_numbers))]
 pub fn read_task(alloc: Global, words: &[Label]) -> Result<Option<Task>, AllocError>
     ensures receiving { IfOk result (λ t. option_and_then receiving_in t ≡ receiving_of words.now) }
@@ -97,7 +97,7 @@ fn place_of(addr: Option<[u8; 4]>, port: Option<u64>) -> Option<Place>
     }
 }
 
-fn udp(addr: [u8; 4], port: u64) -> Place
+pub fn udp(addr: [u8; 4], port: u64) -> Place
     requires { IsPort port }
     ensures { result ≡ Udp addr port }
 {

@@ -1,5 +1,5 @@
 //! What a run does once the datagrams are taken.
-ghost use Rattle.std.specs.Prelude.{◌≡◌, true, [], IfOk, OnOk, option_map};
+ghost use Rattle.std.specs.Prelude.{◌≡◌, ◌≤◌, true, [], IfOk, OnOk, option_map};
 ghost use Rattle.edge_io.specs.Faults.{Rose};
 ghost use Rattle.fcast_run.specs.Texts.{best_lines};
 ghost use Rattle.fcast_run.specs.Outcome.{base_status, end_status, calls_of, outcome_of};
@@ -30,7 +30,9 @@ pub fn conclude<S: Shelf, T: Text>(
         LeavesText result (outcome_of ending drops (option_map (λ i. i.now) installed.entry)).report (T.written text.old) (T.written text.new) }
     ensures shelf { S.told shelf.old → LeavesShelf result (calls_of ending (option_map (λ i. i.now) installed.entry)) (S.holds shelf.old) (S.holds shelf.new) }
     ensures apart { is_apart (status_of_answer result) ≡ true → shelf.new ≡ shelf.old }
+    ensures told { T.told text.old → T.told text.new }
     ensures blames { Blames result ⊥ (Rose (T.faults text.old) (T.faults text.new)) (Rose (S.faults shelf.old) (S.faults shelf.new)) }
+    ensures grows { T.faults text.old ≤ T.faults text.new }
 {
     let best = best_lines(alloc, installed)?;
     let report = report_of(alloc, best.as_str(), drops, ending)?;

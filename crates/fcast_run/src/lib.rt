@@ -14,6 +14,7 @@ mod ending;
 mod events;
 mod fault;
 pub mod laws;
+mod listen;
 mod load;
 mod manifest;
 mod receive;
@@ -31,4 +32,5 @@ mod transmit;
 
 pub use drill::{Summary, drill_into};
 pub use edge::Edge;
+pub use listen::{Gate, Wide, run_listen};
 pub use top_call::run;

@@ -1,5 +1,5 @@
 //! Receiving a session.
-ghost use Rattle.std.specs.Prelude.{◌≡◌, ◌≢◌, ◌+◌, [], true, Some, IfOk, OnErr, drop};
+ghost use Rattle.std.specs.Prelude.{◌≡◌, ◌≢◌, ◌≤◌, ◌+◌, [], true, Some, IfOk, OnErr, drop};
 ghost use Rattle.edge_io.specs.Faults.{Rose};
 ghost use Rattle.fcast_run.specs.Outcome.{received, asked, IsCounted};
 ghost use Rattle.fcast_run.specs.Endings.{is_apart, is_base};
@@ -44,6 +44,8 @@ pub fn receive<D: Datagrams, S: Shelf, T: Text, A: Audience>(
     ensures place { AfterTaking result (D.connected datagrams.new ≡ Some settings.now.place) }
     ensures blames { Blames result
         (Rose (D.faults datagrams.old) (D.faults datagrams.new)) (Rose (T.faults text.old) (T.faults text.new)) (Rose (S.faults shelf.old) (S.faults shelf.new)) }
+    ensures told { T.told text.old → T.told text.new }
+    ensures grows { T.faults text.old ≤ T.faults text.new }
     ensures events { D.told datagrams.old → TellsEvents result settings.now.tsi settings.now.budget settings.now.bound (D.left datagrams.old)
         (λ events. Heard (λ v. number v) (λ v. record_of v)
         (λ v. (⟦<dyn Watch as Watch>⟧ v.vtable).told v.value) (λ v. (⟦<dyn Watch as Watch>⟧ v.vtable).faults v.value)

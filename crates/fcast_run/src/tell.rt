@@ -23,7 +23,9 @@ pub fn tell_usage<T: Text>(text: &mut T) -> Result<u8, Fault>
 pub fn tell<T: Text>(text: &mut T, lines: &str, status: u8) -> Result<u8, Fault>
     ensures status { IfOk result (λ s. s ≡ status) }
     ensures text { T.told text.old → LeavesText result lines.now (T.written text.old) (T.written text.new) }
+    ensures told { T.told text.old → T.told text.new }
     ensures blames { Blames result ⊥ (Rose (T.faults text.old) (T.faults text.new)) ⊥ }
+    ensures grows { T.faults text.old ≤ T.faults text.new }
 {
     write(text, lines)?;
     Ok(status)

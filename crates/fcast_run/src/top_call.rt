@@ -226,7 +226,7 @@ pub fn run<D: Datagrams, E: Emit, F: Files, S: Shelf, T: Text>(
 }
 
 /// The status of a run that came to its end, or was stopped by a fault.
-fn status_of(done: Result<u8, Fault>) -> u8
+pub fn status_of(done: Result<u8, Fault>) -> u8
     ensures { result ≡ status_of_answer done }
 {
     match done {

@@ -4,6 +4,7 @@ use Rattle.std.specs.Option.{ForSome}
 use Rattle.sender_plan.specs.declared.params.Params.{Params}
 use Rattle.fcast_words.specs.declared.command.Command.{Command}
 use Rattle.fcast_words.specs.declared.command.Command.TheVariants.{Replay, Recv, Send, Dump, Drill, Listen}
+use Rattle.fcast_run.specs.declared.listen.listening.Listening.{Listening}
 use Rattle.fcast_run.specs.declared.sending.Sending.{Sending}
 use Rattle.receiver_core.specs.declared.taken.Taken.{Taken}
 use Rattle.receiver_core.specs.declared.taken.Taken.TheVariants.{Refused, Elsewhere, Control, Packet}
@@ -35,14 +36,18 @@ abbrev pub IfSending : Option Sending → Type 0
 IfSending None = Unit {0}
 IfSending (Some s) = AreParams s.params
 
+-- so many readers may look on
+abbrev pub AreReaders : ℕ → Type 0
+AreReaders readers = (1 ≤ readers) × (readers ≤ 16)
+
+abbrev pub IfListening : Option Listening → Type 0
+IfListening None = Unit {0}
+IfListening (Some l) = IsInRange l.settings × AreReaders l.readers
+
 -- ---- the numbers of a command as its words give them
 
 abbrev pub IsPort : ℕ → Type 0
 IsPort port = port < 2 ^ 16
-
--- so many readers may look on
-abbrev pub AreReaders : ℕ → Type 0
-AreReaders readers = (1 ≤ readers) × (readers ≤ 16)
 
 pub record AreReceiving (tsi budget : ℕ) : Type 0 where
   pub tsi_to : tsi < 2 ^ 48

@@ -1,4 +1,4 @@
-use Rattle.std.proofs.Common.{◌≡◌, ◌∷◌, [], ◌∙◌, sym, ap, subst, arith, length}
+use Rattle.std.proofs.Common.{◌∷◌, [], ◌∙◌, sym, ap, subst, arith, length}
 use Rattle.receiver_core.specs.Best.{best}
 use Rattle.receiver_core.specs.Classes.{drops_with, held_with}
 use Rattle.fcast_run.specs.Inner.Ranges.{HasPlace}
