@@ -7,7 +7,7 @@ ghost use Rattle.object_store.specs.KeptSet.{drops};
 ghost use Rattle.watch_list.specs.Hearing.{Heard};
 ghost use Rattle.fcast_run.specs.Commands.{listening_of};
 ghost use Rattle.fcast_run.specs.Texts.{usage_line};
-ghost use Rattle.fcast_run.specs.Outcome.{received, asked, datagrams_taken, packets_taken};
+ghost use Rattle.fcast_run.specs.Outcome.{received, asked, datagrams_taken, packets_taken, IsCounted};
 ghost use Rattle.fcast_run.specs.Endings.{is_listen_status, is_apart, IsDone, AddsPart, AcceptsPart, AcceptsFewer};
 ghost use Rattle.fcast_run.specs.Events.{events_taken, published, HearsPart, HearsFirst};
 ghost use Rattle.fcast_run.specs.Headline.{IsDatagramOf};
@@ -82,6 +82,7 @@ pub fn run_listen<
     ensures table { is_listen_status result ≡ true }
     ensures usage { listening_of words.now ≡ None → result ≢ 5 → result ≢ 9 → result ≡ 1 }
     ensures command { result ≡ 1 → listening_of words.now ≡ None }
+    ensures counted { (l : Listening) → listening_of words.now ≡ Some l → IsCounted l.settings.bound → result ≢ 11 }
     ensures datagrams_failed { result ≡ 4 → Rose (D.faults edge.old.datagrams) (D.faults edge.new.datagrams) }
     ensures text_failed { result ≡ 5 → Rose (T.faults edge.old.text) (T.faults edge.new.text) }
     ensures shelf_failed { result ≡ 6 → Rose (S.faults edge.old.shelf) (S.faults edge.new.shelf) }

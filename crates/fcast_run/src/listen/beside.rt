@@ -1,7 +1,7 @@
 //! Receiving a session beside readers.
-ghost use Rattle.std.specs.Prelude.{◌≡◌, ◌≤◌, [], true, Some, IfOk, drop, map, vec_len, string_bytes};
+ghost use Rattle.std.specs.Prelude.{◌≡◌, ◌≢◌, ◌≤◌, [], true, Some, IfOk, drop, map, vec_len, string_bytes};
 ghost use Rattle.edge_io.specs.Faults.{Rose};
-ghost use Rattle.fcast_run.specs.Outcome.{received, asked};
+ghost use Rattle.fcast_run.specs.Outcome.{received, asked, IsCounted};
 ghost use Rattle.fcast_run.specs.Endings.{is_apart, is_base};
 ghost use Rattle.fcast_run.specs.Events.{published};
 ghost use Rattle.fcast_run.specs.Inner.Answers.{Blames, AfterTaking, LeavesShelf, status_of_answer};
@@ -52,6 +52,7 @@ pub fn receive_beside<
     requires range { IsInRange listening.now.settings }
     requires readers { AreReaders listening.now.readers }
     ensures base { IfOk result (λ s. is_base s ≡ true) }
+    ensures counted { IsCounted listening.now.settings.bound → IfOk result (λ s. s ≢ 11) }
     ensures status { D.told datagrams.old → IfOk result (λ s. s ≡ (received listening.now.settings (D.left datagrams.old) (D.torn datagrams.old)).status) }
     ensures text { D.told datagrams.old → T.told text.old → LeavesLines result (published listening.now.settings (D.left datagrams.old)) listening.now.readers
         (received listening.now.settings (D.left datagrams.old) (D.torn datagrams.old)).report (T.written text.old) (T.written text.new) }
