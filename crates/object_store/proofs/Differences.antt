@@ -84,7 +84,8 @@ same_so_far row symbol (suc m) within inside same =
     let here : not (get_or row m 0 == get_or symbol m 0) ≡ false = let e = same m (omega arith) in grind (arith, nat_tests) in
     let next : m + 1 ≡ suc m = omega arith in
     ap (λ (i : ℕ). position_from differ i (drop i (pairs row symbol))) (sym next)
-    ∙ sym (next_pair row symbol m within (omega (arith, inside)) ∙ ap (λ (t : Bool). cond t (Some m) (position_from differ (m + 1) (drop (m + 1) (pairs row symbol)))) here)
+    ∙ sym (next_pair row symbol m within (omega (arith, inside))
+    ∙ ap (λ (t : Bool). cond t (Some m) (position_from differ (m + 1) (drop (m + 1) (pairs row symbol)))) here)
     ∙ same_so_far row symbol m within (omega (arith, inside)) (λ i less. same i (omega (arith, less)))
 
 pub first_is : (row symbol : List ℕ) (o : Option ℕ) → length symbol ≤ length row → ((i : ℕ) → i < unwrap_or o (length row) → get_or row i 0 ≡ get_or symbol i 0)

@@ -51,7 +51,8 @@ joined_shaped : (o : ObjectInformation) (places bytes : List ℕ) (b : ℕ) → 
 unfolding joined_block
 joined_shaped o places bytes b = record { k = refl; n = refl; size = refl }
 
-joined_row : (o : ObjectInformation) (places bytes : List ℕ) (b j : ℕ) → None ≡ position_from (λ q. q == j) 0 (places_of o places b) → get (joined_block o places bytes b).rows j ≡ None
+joined_row : (o : ObjectInformation) (places bytes : List ℕ) (b j : ℕ) → None ≡ position_from (λ q. q == j) 0 (places_of o places b)
+    → get (joined_block o places bytes b).rows j ≡ None
 unfolding joined_block
 joined_row o places bytes b j none =
     row_at_position o.symbol j (places_of o places b) (symbols_at (size_at o b) o.symbol (rows_from o bytes b) (places_of o places b))

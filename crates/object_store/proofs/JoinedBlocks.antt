@@ -19,7 +19,8 @@ use Rattle.rs_code.specs.SourceRows.{cut}
 use Rattle.object_store.specs.Inner.BlockHeld.{BlockHeld}
 use Rattle.object_store.specs.Inner.BlockRows.{rows_map, symbols_at, IsSolved}
 use Rattle.object_store.specs.Inner.ObjectHeld.{ObjectHeld, unopened, block_at, symbols_in, is_block_done, is_done, IsShaped, AreRowsBelow}
-use Rattle.object_store.specs.Inner.ObjectParts.{object_of, places_of, rows_from, joined_block, joined_parts, ready_object, parts_seen, object_seen, AreWithin, AreJoinedBelow}
+use Rattle.object_store.specs.Inner.ObjectParts.{object_of, places_of, rows_from, joined_block, joined_parts, ready_object, parts_seen}
+use Rattle.object_store.specs.Inner.ObjectParts.{object_seen, AreWithin, AreJoinedBelow}
 use Rattle.object_store.proofs.Places.{tied_numbers}
 use Rattle.object_store.proofs.SymbolRows.{symbols_by_cut}
 use Rattle.object_store.proofs.WithPacket.{none_in}
@@ -82,7 +83,8 @@ joined_front o b places held bytes source placed joined =
     let parts : (s + k) * e ≡ s * e + k * e = omega arith in
     let place_is : places_of o (places ++ held) b ≡ places_of o places b = ap (take k) (drop-append-le s places held (omega (arith, placed)))
     ∙ take-append-le k (drop s places) held (omega (arith, placed, length-drop s places)) in
-    let row_is : cut k e (rows_from o (bytes ++ source) b) ≡ cut k e (rows_from o bytes b) = ap (cut k e) (drop-append-le (s * e) bytes source (omega (arith, joined, parts)))
+    let row_is : cut k e (rows_from o (bytes ++ source) b) ≡ cut k e (rows_from o bytes b) =
+    ap (cut k e) (drop-append-le (s * e) bytes source (omega (arith, joined, parts)))
     ∙ cut_front k e (drop (s * e) bytes) source (omega (arith, joined, parts, length-drop (s * e) bytes)) in
     ap (λ xs. seen o b (rows_map e (places_of o (places ++ held) b) xs)) (symbols_by_cut k e (rows_from o (bytes ++ source) b)
     (rows_from o bytes b) (places_of o (places ++ held) b) row_is)

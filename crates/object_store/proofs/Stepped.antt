@@ -54,7 +54,8 @@ step_of oti parts more p joins shaped updates =
           ∙ ap (λ (h : BlockHeld). record { oti = oti; parts = insert (map_of parts) p.sbn h }) with_is;
       full = ap is_full here ∙ full_is;
       steps = ap solving_steps here
-          ∙ ap (λ x. if x then ((block_at (with_packet o p) p.sbn).k - sources_in (block_at (with_packet o p) p.sbn)) * (block_at (with_packet o p) p.sbn).k else 0) full_is
+          ∙ ap (λ x. if x then ((block_at (with_packet o p) p.sbn).k - sources_in (block_at (with_packet o p) p.sbn))
+          * (block_at (with_packet o p) p.sbn).k else 0) full_is
           ∙ ap (λ (k : ℕ). if is_block_done (with_packet o p) p.sbn then (k - count_below k (has_row (block_at (with_packet o p) p.sbn))) * k else 0) fits.k;
     }
 

@@ -72,7 +72,8 @@ symbol_row_source k size j bytes few are whole less = symbol_row_only k size j b
       let here : get_or s j 0 ≡ get_or (row_at size bytes j) at 0 =
       get_or-column k size at j bytes less lt ∙ sym (get_or-take size (drop (j * size) bytes) at 0 lt ∙ get_or-drop (j * size) bytes at 0) in
       subst (λ (v : ℕ). IsSymbol s j v) here
-      (source_is_symbol s j (column_bytes k size at bytes are lt) (omega (arith, length-column k size at bytes, few)) (omega (arith, length-column k size at bytes, less)));
+      (source_is_symbol s j (column_bytes k size at bytes are lt) (omega (arith, length-column k size at bytes, few))
+      (omega (arith, length-column k size at bytes, less)));
 })
 
 -- ---- the rows at some places
@@ -82,7 +83,8 @@ unfolding symbols_at
 length-symbols_at k size bytes [] = omega arith
 length-symbols_at k size bytes (p ∷ places) =
     let next : suc (length places) * size ≡ size + length places * size = omega arith in
-    omega (arith, length-append (symbol_row k size bytes p) (symbols_at k size bytes places), length-symbol_row k size p bytes, length-symbols_at k size bytes places, next)
+    let long = length-append (symbol_row k size bytes p) (symbols_at k size bytes places) in
+    omega (arith, long, length-symbol_row k size p bytes, length-symbols_at k size bytes places, next)
 
 -- the row in position i
 pub row_of_symbols : (k size i : ℕ) (bytes places : List ℕ) → i < length places
@@ -112,7 +114,8 @@ pub symbols_by_cut : (k size : ℕ) (xs ys places : List ℕ) → cut k size xs 
 unfolding symbols_at
 symbols_by_cut k size xs ys [] same = refl
 symbols_by_cut k size xs ys (p ∷ places) same =
-    ap (λ (r : List ℕ). r ++ symbols_at k size xs places) (row_by_cut k size p xs ys same) ∙ ap (λ (r : List ℕ). symbol_row k size ys p ++ r) (symbols_by_cut k size xs ys places same)
+    ap (λ (r : List ℕ). r ++ symbols_at k size xs places) (row_by_cut k size p xs ys same)
+    ∙ ap (λ (r : List ℕ). symbol_row k size ys p ++ r) (symbols_by_cut k size xs ys places same)
 
 -- these are rows whose symbols they are
 symbols_are : (k size : ℕ) (bytes places rows : List ℕ) → length rows ≡ length places * size

@@ -7,7 +7,8 @@ pub returns-in_ok-rows-clause-held : goal.returns-in_ok-rows-clause-held
 returns-in_ok-rows-clause-held g c =
     let all : length c.args.places.now ≡ c.args.k = omega (arith, c.if-places-from.true, c.from.ensures) in
     held_when_full c.args.k c.args.size c.args.places.now c.in_ok-rows.field-0.items all
-    ∙ symbols_solved c.args.k c.args.size c.args.places.now c.args.rows.now.items c.in_ok-rows.field-0.items (omega (arith, all, c.requires.places.most)) all c.requires.rows
+    ∙ symbols_solved c.args.k c.args.size c.args.places.now c.args.rows.now.items c.in_ok-rows.field-0.items (omega (arith, all, c.requires.places.most)) all
+    c.requires.rows
     (subst (λ (xs : List ℕ). IsSolution c.args.size c.args.places.now xs c.in_ok-rows.field-0.items) c.as_slice.ensures.value c.in_ok-rows.ensures.block)
 
 pub returns-else-places-from-clause-held : goal.returns-else-places-from-clause-held

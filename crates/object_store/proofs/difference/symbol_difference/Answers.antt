@@ -21,4 +21,5 @@ returns-then-esi-k c =
     ∙ ap (row_at c.args.size xs) c.from.ensures
     ∙ sym (symbol_row_source c.args.k c.args.size c.args.esi xs (omega (arith, c.ranges.k.fits)) bytes (omega (arith, c.requires.source)) c.if-esi-k.true) in
     c.row_difference.ensures ∙ ap (λ (r : List ℕ). position_from differ 0 (pairs r c.args.symbol.now)) row_is
-    ∙ ap (λ (n : ℕ). position_from differ 0 (zip (symbol_row c.args.k c.args.size xs c.args.esi) (zero_filled n c.args.symbol.now))) (length-symbol_row c.args.k c.args.size c.args.esi xs)
+    ∙ ap (λ (n : ℕ). position_from differ 0 (zip (symbol_row c.args.k c.args.size xs c.args.esi) (zero_filled n c.args.symbol.now)))
+    (length-symbol_row c.args.k c.args.size c.args.esi xs)

@@ -31,7 +31,8 @@ returns-in-Some c =
     let bytes = c.args.bytes.now in
     let one : (n : ℕ) → n * 1 ≡ n = λ n. omega arith in
     let place_is : c.of_block.result.now ≡ places_of i.oti places i.sbn = c.of_block.ensures.part
-    ∙ ap (λ (n : ℕ). take n (drop (start_at i.oti i.sbn * 1) places)) (one (size_at i.oti i.sbn)) ∙ ap (λ (n : ℕ). take (size_at i.oti i.sbn) (drop n places)) (one (start_at i.oti i.sbn)) in
+    ∙ ap (λ (n : ℕ). take n (drop (start_at i.oti i.sbn * 1) places)) (one (size_at i.oti i.sbn))
+    ∙ ap (λ (n : ℕ). take (size_at i.oti i.sbn) (drop n places)) (one (start_at i.oti i.sbn)) in
     let symbol_is : c.oti.inside.symbol ≡ i.oti.symbol = ap (λ (o : ObjectInformation). o.symbol) c.oti.view_is in
     let source_is = c.of_block-source.ensures.part
     ∙ ap (λ (w : ℕ). take (size_at i.oti i.sbn * w) (drop (start_at i.oti i.sbn * w) bytes)) (c.from.ensures ∙ symbol_is) in
@@ -53,7 +54,8 @@ returns-in-None c =
     let bytes = c.args.bytes.now in
     let one : (n : ℕ) → n * 1 ≡ n = λ n. omega arith in
     let place_is : c.of_block.result.now ≡ places_of i.oti places i.sbn = c.of_block.ensures.part
-    ∙ ap (λ (n : ℕ). take n (drop (start_at i.oti i.sbn * 1) places)) (one (size_at i.oti i.sbn)) ∙ ap (λ (n : ℕ). take (size_at i.oti i.sbn) (drop n places)) (one (start_at i.oti i.sbn)) in
+    ∙ ap (λ (n : ℕ). take n (drop (start_at i.oti i.sbn * 1) places)) (one (size_at i.oti i.sbn))
+    ∙ ap (λ (n : ℕ). take (size_at i.oti i.sbn) (drop n places)) (one (start_at i.oti i.sbn)) in
     not_joined p places bytes c.packet.invariant (ap (λ (q : SymbolPacket). is_done (ready_object q.oti places bytes)) c.packet.view_is ∙ c.requires.done)
     (c.in-None.ensures.first ∙ ap (position_from (λ q. q == i.esi) 0) place_is)
     ∙ ap (λ (q : SymbolPacket). finding_at (ready_object q.oti places bytes) q) c.packet.view_is

@@ -48,7 +48,8 @@ loop-sbn-preserved c =
           let here : block_at o n ≡ w.in-Some.block.now = block_in_tree o.oti c.args.parts.now n
           ∙ ap (λ r. unwrap_or r (unopened o.oti n)) (sym w.in-Some.ensures.value) in
           let shaped = subst (IsShaped o.oti n) here (c.requires.shaped n) in
-          let placed : c.match-get.places.items ≡ c.loop-sbn.places.items ++ w.solved.result.0.now = ap (λ (v : Vec ℕ Global). v.items) w.places-is ∙ w.append_within.ensures.items in
+          let placed : c.match-get.places.items ≡ c.loop-sbn.places.items ++ w.solved.result.0.now = ap (λ (v : Vec ℕ Global). v.items) w.places-is
+          ∙ w.append_within.ensures.items in
           let joined : c.match-get.bytes.items ≡ c.loop-sbn.bytes.items ++ w.solved.result.1.now =
           ap (λ (v : Vec ℕ Global). v.items) w.bytes-is ∙ w.append_within-in-Some.ensures.items in record {
             end = c.loop-sbn.invariant.end;

@@ -32,10 +32,11 @@ loop-i-preserved c =
       full = omega arith;
       sums = λ at less.
           let inside : start + at < c.args.block.now.size = omega (arith, less, c.requires.part) in
+          let within : at < length c.loop-i.out = omega (arith, less, c.loop-i.invariant.full) in
           let byte_is = get_or-take n (drop start row) at 0 (omega (arith, less)) ∙ get_or-drop start row at 0 ∙ c.row.ensures.bytes (start + at) inside in
           weighed_more w (column (rows_of c.args.block.now) (start + at)) c.loop-i.i (get_or c.loop-i.out at 0) by (get_or src at 0) (get_or c.row_add.new.dst at 0)
           (ap (λ i. get_or w i 0) c.from.ensures) byte_is (c.loop-i.invariant.sums at less)
-          (ap (λ xs. get_or xs at 0) c.row_add.ensures ∙ get_or-added_row by at src c.loop-i.out (omega (arith, less, long)) (omega (arith, less, c.loop-i.invariant.full)));
+          (ap (λ xs. get_or xs at 0) c.row_add.ensures ∙ get_or-added_row by at src c.loop-i.out (omega (arith, less, long)) within);
     }
 
 pub returns-clause-symbols : goal.returns-clause-symbols

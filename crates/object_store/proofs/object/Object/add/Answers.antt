@@ -11,7 +11,8 @@ pub add_to_part-requires : goal.add_to_part-requires
 add_to_part-requires g c =
     let v = c.self.inside in
     let p = c.args.packet.now in
-    let seen = open_to c.args.self.now v.oti v.parts v.waiting v.places.items v.bytes.items p c.self.view_is c.self.invariant c.completes-object.ensures.sound c.requires in
+    let seen = open_to c.args.self.now v.oti v.parts v.waiting v.places.items v.bytes.items p c.self.view_is c.self.invariant
+    c.completes-object.ensures.sound c.requires in
     part_has_room v.oti v.parts p c.completes-object.ensures.sound seen.joins seen.holds.shaped
 
 pub invariant_of-self-in_err-block : goal.invariant_of-self-in_err-block
@@ -31,14 +32,16 @@ pub fewer-self-inside-requires : goal.fewer-self-inside-requires
 fewer-self-inside-requires g c block =
     let v = c.self.inside in
     let p = c.args.packet.now in
-    let seen = open_to c.args.self.now v.oti v.parts v.waiting v.places.items v.bytes.items p c.self.view_is c.self.invariant c.completes-object.ensures.sound c.requires in
+    let seen = open_to c.args.self.now v.oti v.parts v.waiting v.places.items v.bytes.items p c.self.view_is c.self.invariant
+    c.completes-object.ensures.sound c.requires in
     seen.waits
 
 pub join_when-requires-clause-shaped : goal.join_when-requires-clause-shaped
 join_when-requires-clause-shaped g c =
     let v = c.self.inside in
     let p = c.args.packet.now in
-    let seen = open_to c.args.self.now v.oti v.parts v.waiting v.places.items v.bytes.items p c.self.view_is c.self.invariant c.completes-object.ensures.sound c.requires in
+    let seen = open_to c.args.self.now v.oti v.parts v.waiting v.places.items v.bytes.items p c.self.view_is c.self.invariant
+    c.completes-object.ensures.sound c.requires in
     let step = step_of v.oti v.parts c.add_to_part.new.parts p seen.joins seen.holds.shaped c.in_ok-block.ensures.ok in
     subst AreShaped (sym step.new) (shaped_with (object_of v.oti v.parts) p seen.holds.shaped)
 
@@ -46,7 +49,8 @@ pub join_when-requires-clause-within : goal.join_when-requires-clause-within
 join_when-requires-clause-within g c =
     let v = c.self.inside in
     let p = c.args.packet.now in
-    let seen = open_to c.args.self.now v.oti v.parts v.waiting v.places.items v.bytes.items p c.self.view_is c.self.invariant c.completes-object.ensures.sound c.requires in
+    let seen = open_to c.args.self.now v.oti v.parts v.waiting v.places.items v.bytes.items p c.self.view_is c.self.invariant
+    c.completes-object.ensures.sound c.requires in
     let step = step_of v.oti v.parts c.add_to_part.new.parts p seen.joins seen.holds.shaped c.in_ok-block.ensures.ok in
     subst AreWithin (sym step.new) (within_with (object_of v.oti v.parts) p (block_within (object_of v.oti v.parts) p
     c.completes-object.ensures.sound seen.joins.same) seen.holds.within)
@@ -55,7 +59,8 @@ pub join_when-requires-clause-done : goal.join_when-requires-clause-done
 join_when-requires-clause-done g c =
     let v = c.self.inside in
     let p = c.args.packet.now in
-    let seen = open_to c.args.self.now v.oti v.parts v.waiting v.places.items v.bytes.items p c.self.view_is c.self.invariant c.completes-object.ensures.sound c.requires in
+    let seen = open_to c.args.self.now v.oti v.parts v.waiting v.places.items v.bytes.items p c.self.view_is c.self.invariant
+    c.completes-object.ensures.sound c.requires in
     let step = step_of v.oti v.parts c.add_to_part.new.parts p seen.joins seen.holds.shaped c.in_ok-block.ensures.ok in
     c.completes-object.ensures.ready ∙ ap (λ (u : ObjectHeld). is_done (with_packet u p)) (sym seen.view) ∙ ap is_done (sym step.new)
 
@@ -63,35 +68,40 @@ pub join_when-requires-clause-none_placed : goal.join_when-requires-clause-none_
 join_when-requires-clause-none_placed g c object =
     let v = c.self.inside in
     let p = c.args.packet.now in
-    let seen = open_to c.args.self.now v.oti v.parts v.waiting v.places.items v.bytes.items p c.self.view_is c.self.invariant c.completes-object.ensures.sound c.requires in
+    let seen = open_to c.args.self.now v.oti v.parts v.waiting v.places.items v.bytes.items p c.self.view_is c.self.invariant
+    c.completes-object.ensures.sound c.requires in
     c.reserve_when.ensures.places ∙ seen.none_placed
 
 pub join_when-requires-clause-none_joined : goal.join_when-requires-clause-none_joined
 join_when-requires-clause-none_joined g c object =
     let v = c.self.inside in
     let p = c.args.packet.now in
-    let seen = open_to c.args.self.now v.oti v.parts v.waiting v.places.items v.bytes.items p c.self.view_is c.self.invariant c.completes-object.ensures.sound c.requires in
+    let seen = open_to c.args.self.now v.oti v.parts v.waiting v.places.items v.bytes.items p c.self.view_is c.self.invariant
+    c.completes-object.ensures.sound c.requires in
     c.reserve_when.ensures.bytes ∙ seen.none_joined
 
 pub join_when-requires-clause-room_placed : goal.join_when-requires-clause-room_placed
 join_when-requires-clause-room_placed g c object =
     let v = c.self.inside in
     let p = c.args.packet.now in
-    let seen = open_to c.args.self.now v.oti v.parts v.waiting v.places.items v.bytes.items p c.self.view_is c.self.invariant c.completes-object.ensures.sound c.requires in
+    let seen = open_to c.args.self.now v.oti v.parts v.waiting v.places.items v.bytes.items p c.self.view_is c.self.invariant
+    c.completes-object.ensures.sound c.requires in
     c.in_ok-reserve_when.ensures.room_placed object seen.none_placed
 
 pub join_when-requires-clause-room_joined : goal.join_when-requires-clause-room_joined
 join_when-requires-clause-room_joined g c object =
     let v = c.self.inside in
     let p = c.args.packet.now in
-    let seen = open_to c.args.self.now v.oti v.parts v.waiting v.places.items v.bytes.items p c.self.view_is c.self.invariant c.completes-object.ensures.sound c.requires in
+    let seen = open_to c.args.self.now v.oti v.parts v.waiting v.places.items v.bytes.items p c.self.view_is c.self.invariant
+    c.completes-object.ensures.sound c.requires in
     c.in_ok-reserve_when.ensures.room_joined object seen.none_joined
 
 pub invariant_of-self-2 : goal.invariant_of-self-2
 invariant_of-self-2 g c =
     let v = c.self.inside in
     let p = c.args.packet.now in
-    let seen = open_to c.args.self.now v.oti v.parts v.waiting v.places.items v.bytes.items p c.self.view_is c.self.invariant c.completes-object.ensures.sound c.requires in
+    let seen = open_to c.args.self.now v.oti v.parts v.waiting v.places.items v.bytes.items p c.self.view_is c.self.invariant
+    c.completes-object.ensures.sound c.requires in
     let step = step_of v.oti v.parts c.add_to_part.new.parts p seen.joins seen.holds.shaped c.in_ok-block.ensures.ok in
     let object_is = c.completes-object.ensures.ready ∙ ap (λ (u : ObjectHeld). is_done (with_packet u p)) (sym seen.view) in
     let holds = holds_with (object_of v.oti v.parts) p v.waiting c.fewer-self-inside.result v.places.items v.bytes.items
@@ -111,7 +121,8 @@ pub returns-clause-ok : goal.returns-clause-ok
 returns-clause-ok g c =
     let v = c.self.inside in
     let p = c.args.packet.now in
-    let seen = open_to c.args.self.now v.oti v.parts v.waiting v.places.items v.bytes.items p c.self.view_is c.self.invariant c.completes-object.ensures.sound c.requires in
+    let seen = open_to c.args.self.now v.oti v.parts v.waiting v.places.items v.bytes.items p c.self.view_is c.self.invariant
+    c.completes-object.ensures.sound c.requires in
     let step = step_of v.oti v.parts c.add_to_part.new.parts p seen.joins seen.holds.shaped c.in_ok-block.ensures.ok in
     let object_is = c.completes-object.ensures.ready ∙ ap (λ (u : ObjectHeld). is_done (with_packet u p)) (sym seen.view) in
     let holds = holds_with (object_of v.oti v.parts) p v.waiting c.fewer-self-inside.result v.places.items v.bytes.items
@@ -131,7 +142,8 @@ pub returns-clause-block : goal.returns-clause-block
 returns-clause-block g c =
     let v = c.self.inside in
     let p = c.args.packet.now in
-    let seen = open_to c.args.self.now v.oti v.parts v.waiting v.places.items v.bytes.items p c.self.view_is c.self.invariant c.completes-object.ensures.sound c.requires in
+    let seen = open_to c.args.self.now v.oti v.parts v.waiting v.places.items v.bytes.items p c.self.view_is c.self.invariant
+    c.completes-object.ensures.sound c.requires in
     let step = step_of v.oti v.parts c.add_to_part.new.parts p seen.joins seen.holds.shaped c.in_ok-block.ensures.ok in
     c.in_ok-block.ensures.full ∙ step.full ∙ ap (λ (u : ObjectHeld). is_block_done (with_packet u p) p.sbn) seen.view
 
@@ -139,7 +151,8 @@ pub returns-clause-count : goal.returns-clause-count
 returns-clause-count g c =
     let v = c.self.inside in
     let p = c.args.packet.now in
-    let seen = open_to c.args.self.now v.oti v.parts v.waiting v.places.items v.bytes.items p c.self.view_is c.self.invariant c.completes-object.ensures.sound c.requires in
+    let seen = open_to c.args.self.now v.oti v.parts v.waiting v.places.items v.bytes.items p c.self.view_is c.self.invariant
+    c.completes-object.ensures.sound c.requires in
     let step = step_of v.oti v.parts c.add_to_part.new.parts p seen.joins seen.holds.shaped c.in_ok-block.ensures.ok in
     c.in_ok-block.ensures.count ∙ ap (λ (m : ℕ). min (c.args.steps.now.count + m) 18446744073709551615)
     (step.steps ∙ ap (λ (u : ObjectHeld). steps_at (with_packet u p) p.sbn) seen.view)
