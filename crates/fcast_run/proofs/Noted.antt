@@ -21,15 +21,17 @@ last_mapped (i ∷ (j ∷ h)) =
     let at : length (map (λ (s : Shown). s.number) (i ∷ (j ∷ h))) - 1 ≡ suc (length (map (λ (s : Shown). s.number) (j ∷ h)) - 1) = omega arith in
     rw at (last_mapped (j ∷ h))
 
--- what a reader is shown which has learned what was published isn't below it
-pub not_below : (published learned shown : List Shown) (installed seen : Option ℕ) → installed ≡ option_map (λ i. i.number) (last_of published)
-    → seen ≡ option_map (λ i. i.number) (last_of shown) → IsPrefix published learned → IsRising learned → height learned ≤ height shown
-    → one_more installed ≤ one_more seen
-not_below published learned shown installed seen is_installed is_seen begins rising above =
-    let first = height_grows published learned begins rising in
+-- what is shown where a history was learned is as high as that
+pub as_high_as_told : (told learned shown : List Shown) → IsPrefix told learned → IsRising learned → height learned ≤ height shown → height told ≤ height shown
+as_high_as_told told learned shown begins rising above = let first = height_grows told learned begins rising in omega (arith, first, above)
+
+-- so its number isn't below the last one
+pub not_below : (published shown : List Shown) (installed seen : Option ℕ) → installed ≡ option_map (λ i. i.number) (last_of published)
+    → seen ≡ option_map (λ i. i.number) (last_of shown) → height published ≤ height shown → one_more installed ≤ one_more seen
+not_below published shown installed seen is_installed is_seen above =
     let low = ap one_more is_installed ∙ as_high (last_of published) in
     let high = ap one_more is_seen ∙ as_high (last_of shown) in
-    omega (arith, first, above, low, high)
+    omega (arith, above, low, high)
 
 -- a number of those that were published may be noted
 pub may_note : (o : Option ℕ) (numbers : List ℕ) (published : List Shown) → numbers ≡ map (λ i. i.number) published

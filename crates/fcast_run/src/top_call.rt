@@ -37,13 +37,14 @@ use watch_list::Watch;
 
 /// Does what the words say, and answers the status.
 ///
-/// There are five commands so far. `replay` takes the datagrams of the log, but no more than `--most`, keeps the packets
-/// of the session `--tsi` within the budget, installs the best instance on the shelf where the list was read to its
-/// end, and writes the report to `text`. `recv` does the same with the datagrams that come over UDP to `--addr` and
-/// `--port`, and ends its list with the last of `--count`. `dump` writes a line for each datagram of the log, but for no
-/// more than `--most`. `send` plans the session of the catalog `--catalog` from its files, and sends its datagrams, as a
-/// log or to `--addr` and `--port`. `drill` sends drawn files over a link that loses, repeats and reorders datagrams by
-/// the draws that follow from `--start`, has a receiver take them, and writes what came of it.
+/// It does five commands; words of the sixth, `listen`, are for `run_listen` and no command here. `replay` takes the
+/// datagrams of the log, but no more than `--most`, keeps the packets of the session `--tsi` within the budget,
+/// installs the best instance on the shelf where the list was read to its end, and writes the report to `text`. `recv`
+/// does the same with the datagrams that come over UDP to `--addr` and `--port`, and ends its list with the last of
+/// `--count`. `dump` writes a line for each datagram of the log, but for no more than `--most`. `send` plans the
+/// session of the catalog `--catalog` from its files, and sends its datagrams, as a log or to `--addr` and `--port`.
+/// `drill` sends drawn files over a link that loses, repeats and reorders datagrams by the draws that follow from
+/// `--start`, has a receiver take them, and writes what came of it.
 ///
 /// While `replay` and `recv` take their datagrams the watchers hear of each what became of it, and the number of another
 /// instance where one is installed with it.
@@ -51,7 +52,7 @@ use watch_list::Watch;
 /// | status | meaning |
 /// |---|---|
 /// | 0 | the list was read to its end, an instance is installed, and no packet was over the budget; or it was dumped; or all was sent; or it was drilled and an instance is installed |
-/// | 1 | the words are no command |
+/// | 1 | the words are no command, or a `listen` |
 /// | 2 | the list was read to its end, nothing is installed, and no packet was over the budget; or it was drilled and nothing is installed |
 /// | 3 | the log is torn |
 /// | 4, 5, 6 | the datagrams, the text or the sink, the shelf failed |

@@ -1,14 +1,14 @@
 //! The lines of the readers.
 ghost use Rattle.std.specs.Prelude.{◌≡◌, ◌≤◌, ◌++◌, [], map, length, vec_len, Contains, IfOk, IfSome, OnOk, string_bytes, option_map};
 ghost use Rattle.std.specs.Fmt.{decimal};
-ghost use Rattle.snapshot_hub.specs.Histories.{last_of};
+ghost use Rattle.snapshot_hub.specs.Histories.{height, last_of};
 ghost use Rattle.fcast_run.specs.Listen.{number_or_none, reader_line, AreReaderLines};
 ghost use Rattle.fcast_run.specs.Inner.Noted.{one_more};
 
 use crate::listen::reader::Stopped;
 use carousel_cid::Instance;
 use itoa::Buffer;
-use snapshot_hub::{Look, Naming, Publisher};
+use snapshot_hub::{Glance, Look, Naming, Publisher, Told};
 use std::alloc::AllocError;
 
 /// How many bytes a line has at most: 19 of its own, two digits of a reader, and twice ten of another number.
@@ -46,7 +46,7 @@ fn noted(numbers: &[u32], saw: Option<u32>) -> Option<u32>
     }
 }
 
-/// The number that a reader is shown which was told what was published, but none above that of the last instance.
+/// The number that a reader is shown at last, but none above that of the last instance.
 fn last_number<H: Naming>(
     publisher: &Publisher<H>,
     numbers: &[u32],
@@ -55,9 +55,16 @@ fn last_number<H: Naming>(
     requires { numbers.now ≡ map (λ i. i.number) publisher.now }
     ensures { IfOk result (λ n. n ≡ option_map (λ i. i.number) (last_of publisher.now)) }
 {
-    let told = publisher.tell()?;
-    let glance = look.learn(told).look();
+    let glance = last_glance(look, publisher.tell()?);
     Ok(lesser(number_of(glance.instance()), numbers.last().copied()))
+}
+
+/// What a reader is shown once it was told this.
+#[tactic(auto, using(crate::proofs::Noted::as_high_as_told))]
+fn last_glance<H: Naming>(look: Look<H>, told: Told<H>) -> Glance<H>
+    ensures { height told ≤ height result }
+{
+    look.learn(told).look()
 }
 
 /// The number of an instance, where there is one.

@@ -1,17 +1,18 @@
-use Rattle.std.proofs.Common.{◌-◌, ◌∙◌, ap, subst, length, slice_get}
+use Rattle.std.proofs.Common.{◌-◌, ◌≤◌, ◌∙◌, ap, subst, length, slice_get}
 use Rattle.std.specs.Prelude.{option_map}
-use mathlib.Core.List.{IsPrefix}
 use Rattle.carousel_cid.specs.Instances.{Shown}
+use Rattle.snapshot_hub.specs.Histories.{height}
 use Rattle.fcast_run.proofs.Noted.{last_mapped, not_below}
 use Rattle.fcast_run.proofs.listen.lines.last_number.Goals as goal
 
 pub lesser-requires : goal.lesser-requires
 lesser-requires g c =
     let p = c.args.publisher.now in
-    not_below p c.learn.result c.look-glance.result c.copied.result c.number_of.result
+    let shown = c.last_glance-glance.result in
+    not_below p shown c.copied.result c.number_of.result
     (c.copied.ensures ∙ c.last.ensures.value ∙ ap (λ ns. slice_get ns (length ns - 1)) c.requires ∙ last_mapped p)
     (c.number_of.ensures ∙ ap (option_map (λ (i : Shown). i.number)) c.instance.ensures)
-    (subst (λ t. IsPrefix t c.learn.result) c.in_ok-told.ensures c.learn.ensures.told) c.learn.ensures.rising c.look-glance.ensures.number
+    (subst (λ t. height t ≤ height shown) c.in_ok-tell.ensures c.last_glance-glance.ensures)
 
 pub returns : goal.returns
 returns g c =
