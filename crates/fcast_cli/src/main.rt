@@ -1,4 +1,4 @@
-//! The program `fcast`: it makes the real forms of the outside and calls `run`.
+//! The program `fcast`: it makes the real forms of the outside, and calls `run` or `run_listen`.
 #![tactic(auto)]
 
 mod event_text;
@@ -13,13 +13,15 @@ use crate::watchers::{heard_by, tell_heard};
 use edge_io::{
     FolderFiles, FolderShelf, PlacedDatagrams, PlacedEmit, ReaderBytes, Text, Trouble, WriterText,
 };
-use fcast_run::{Edge, run};
+use fcast_run::{Edge, Wide, run, run_listen};
 use meta_text::Label;
 use std::io::{BufReader, BufWriter, ErrorKind};
 use std::process::ExitCode;
 use std::rt::Env;
+use std::sync::{Arc, Wait};
+use std::thread::Threads;
 use std::{env, io};
-use watch_list::{Counter, Lines, Watch};
+use watch_list::{Bell, Counter, Lines, Watch};
 
 /// The status for a `FCAST_RATE` that is no number, as for a faulty command.
 const NO_COMMAND: u8 = 1;
@@ -42,7 +44,7 @@ fn main(rt: HostRuntime) -> ExitCode {
     };
     let status = match asked_rate(&rt) {
         // Only a buffer's memory is asked for.
-        Ok(rate) => run_outside(rt, rate, words.as_slice()).unwrap_or(NO_MEMORY),
+        Ok(rate) => run_outside(&rt, rt, rate, words.as_slice()).unwrap_or(NO_MEMORY),
         Err(RateFault::NoNumber) => {
             tell(&rt, "FCAST_RATE is no number of bytes a second", &None);
             NO_COMMAND
@@ -55,8 +57,14 @@ fn main(rt: HostRuntime) -> ExitCode {
     ExitCode::from(status)
 }
 
-/// Runs the command over the real forms, and says what the watchers heard and which of the forms failed.
-fn run_outside(rt: HostRuntime, rate: u64, words: &[Label]) -> io::Result<u8> {
+/// Runs the command over the real forms, and says what the watchers heard and which of the forms failed. The readers of
+/// a listening run on `threads`.
+fn run_outside<R: Threads + Wait + Copy + Send + 'static>(
+    threads: &R,
+    rt: HostRuntime,
+    rate: u64,
+    words: &[Label],
+) -> io::Result<u8> {
     let alloc = rt.alloc();
     let input = BufReader::with_capacity(alloc, PIECE, rt.stdin())?;
     let log = BufWriter::with_capacity(alloc, PIECE, rt.stdout())?;
@@ -70,10 +78,20 @@ fn run_outside(rt: HostRuntime, rate: u64, words: &[Label]) -> io::Result<u8> {
     };
     // They are boxed here, since what boxes hide would be hidden in a function that gives them to its caller.
     let mut watchers: Vec<Box<dyn Watch>> = Vec::new(alloc);
-    watchers.push(Box::new(alloc, Lines::new(EventText::new(rt, alloc)?))?)?;
+    let listens = is_listen(words);
+    if listens {
+        watchers.push(Box::new(alloc, Bell::new(EventText::new(rt, alloc)?))?)?;
+    } else {
+        watchers.push(Box::new(alloc, Lines::new(EventText::new(rt, alloc)?))?)?;
+    }
     watchers.push(Box::new(alloc, Counter::new())?)?;
     let mut heard = Vec::with_capacity(alloc, watchers.len())?;
-    let status = run(alloc, words, &mut edge, &mut watchers);
+    let status = if listens {
+        let gate = Arc::new(alloc, Wide)?;
+        run_listen(threads, alloc, words, &mut edge, &mut watchers, &gate)
+    } else {
+        run(alloc, words, &mut edge, &mut watchers)
+    };
     let status = ended(status, edge.emit.log.sink.finish());
     let status = ended(status, edge.text.finish());
     heard_by(&watchers, &mut heard)?;
@@ -101,6 +119,11 @@ fn run_outside(rt: HostRuntime, rate: u64, words: &[Label]) -> io::Result<u8> {
         _ => {}
     }
     Ok(status)
+}
+
+/// Says whether the words are a `listen`, as far as the first of them goes.
+fn is_listen(words: &[Label]) -> bool {
+    words.first().is_some_and(|word| word.as_str() == "listen")
 }
 
 /// The status of a run after a text was flushed at its end.

@@ -10,6 +10,10 @@ mod dumps;
 #[cfg(test)]
 mod failures;
 #[cfg(test)]
+mod listen_beside;
+#[cfg(test)]
+mod listens;
+#[cfg(test)]
 mod logs;
 #[cfg(test)]
 mod objects;

@@ -22,7 +22,7 @@ fn other_words_are_no_command(rt: HostRuntime) -> Result<(), Fail> {
         &["--help"],
         &["Replay"],
         &["replay", "replay"],
-        // A command that this program has no code for yet.
+        // `run_listen` does this one.
         &["listen"],
     ];
     let log = log_of(alloc, &[&EMPTY_INSTANCE_DATAGRAM])?;
