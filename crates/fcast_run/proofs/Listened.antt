@@ -4,7 +4,7 @@ use Rattle.std.proofs.Common.{append_assoc, length-append}
 use Rattle.std.specs.Prelude.{Result, Ok, Err, IfOk, OnErr, IsErrAnd, option_map}
 use Rattle.std.specs.List.{All}
 use Rattle.std.proofs.lemmas.List.{append-nil, length-replicate}
-use Rattle.std.proofs.lemmas.List.Elements.{All-push, All-nil, All-replicate}
+use Rattle.std.proofs.lemmas.List.Elements.{All-push, All-replicate}
 use Rattle.std.proofs.Math.Seq.{take-append_seam}
 use Rattle.carousel_cid.specs.Instances.{Shown}
 use Rattle.edge_io.specs.Faults.{Rose}
@@ -49,9 +49,6 @@ lines_behind reader (s ∷ saw) one last =
     ∙ ap (λ n. reader_lines (reader + 1) saw last ++ reader_line n one last)
     (let e : (reader + 1) + length saw ≡ reader + length (s ∷ saw) = omega arith in e))
     ∙ sym (append_assoc (reader_line reader s last) (reader_lines (reader + 1) saw last) (reader_line (reader + length (s ∷ saw)) one last))
-
-pub no_lines : (published : List Shown) (text : List ℕ) → text ≡ [] → AreReaderLines published 0 text
-no_lines published text is = record { saw = []; count = refl; known = All-nil (MayNote published); is = is }
 
 -- the line of the next reader
 pub one_line_more : (published : List Shown) (n reader : ℕ) (one last : Option ℕ) (text text' : List ℕ) → AreReaderLines published n text → reader ≡ n + 1

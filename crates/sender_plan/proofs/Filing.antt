@@ -12,7 +12,7 @@ use Rattle.sender_plan.specs.Inner.Planning.{IsFilable, body_at}
 use Rattle.sender_plan.proofs.Sets.{added_all-distinct, bytes_transitive}
 use Rattle.sender_plan.proofs.Keys.{same_bytes}
 use Rattle.sender_plan.proofs.Identifiers.{all_added}
-use Rattle.sender_plan.proofs.Planned.{each_at, all_each}
+use Rattle.std.proofs.lemmas.List.Elements.{All-from_recursion, recursion_from_All}
 
 -- ---- the body under a name
 
@@ -98,12 +98,12 @@ pub are_filable : (instances : List CatalogInstance) (bodies : List (List ℕ)) 
     → All (λ i. All (IsFilable names places held) i.items) instances
 are_filable instances bodies names places held named is short texts = λ at d within at' d' within'.
     let item = get_or (get_or instances at d).items at' d' in
-    let nested = each_at (λ i. AllByRecursion (λ item. list_any (bytes_eq item.name) (names_of instances) ≡ true) i.items)
+    let nested = All-from_recursion (λ i. AllByRecursion (λ item. list_any (bytes_eq item.name) (names_of instances) ≡ true) i.items)
     instances (names_known instances) at d within in
-    let known = each_at (λ item. list_any (bytes_eq item.name) (names_of instances) ≡ true) (get_or instances at d).items nested at' d' within' in
+    let known = All-from_recursion (λ item. list_any (bytes_eq item.name) (names_of instances) ≡ true) (get_or instances at d).items nested at' d' within' in
     record {
       known = ap (list_any (bytes_eq item.name)) named ∙ known;
       short = subst (λ (b : List ℕ → List ℕ). length (b item.name) ≤ 16777216) (sym (same_body instances bodies names places held named is))
-          (short_or bodies (position_or_len (bytes_eq item.name) (names_of instances)) (all_each (λ b. length b ≤ 16777216) bodies short));
+          (short_or bodies (position_or_len (bytes_eq item.name) (names_of instances)) (recursion_from_All (λ b. length b ≤ 16777216) bodies short));
       texts = texts at d within at' d' within';
     }

@@ -7,6 +7,7 @@ use Rattle.std.specs.Str.{bytes_eq}
 use Rattle.std.proofs.lemmas.Bool.{ltb-false}
 use Rattle.std.proofs.lemmas.List.{length-map}
 use Rattle.std.proofs.lemmas.List.Concat.{flat_map-cons}
+use Rattle.std.proofs.lemmas.List.Elements.{All-from_recursion}
 use Rattle.std.proofs.lemmas.List.Sums.{sum_by-cons}
 use Rattle.wire_bytes.specs.FirstFault.{fault_when, first_fault}
 use Rattle.wire_bytes.proofs.Public.{none_hold, cause_fails}
@@ -105,15 +106,6 @@ few_files at (i ∷ instances) few = by (nat_lt most_files (length i.items)) ref
     by true is few later = absurd cc
     by false is few later = (ltb-false most_files (length i.items) is, later few)
 
-pub each_at : {X : Type 0} (P : X → Type 0) (xs : List X) → AllByRecursion P xs → All P xs
-each_at P [] all i d within = absurd (omega arith)
-each_at P (x ∷ xs) all zero d within = all.0
-each_at P (x ∷ xs) all (suc i) d within = each_at P xs all.1 i d (omega arith)
-
-pub all_each : {X : Type 0} (P : X → Type 0) (xs : List X) → All P xs → AllByRecursion P xs
-all_each P [] all = tt
-all_each P (x ∷ xs) all = (all 0 x (omega arith), all_each P xs (λ i d within. all (suc i) d (omega arith)))
-
 -- ---- how many there are
 
 filtered_length : {X : Type 0} (keeps : X → Bool) (xs : List X) → length (filter keeps xs) ≤ length xs
@@ -194,8 +186,8 @@ is_object params texts objects made all position o is =
 
 pub is_instance : (s : Session) (i : SentInstance) → HasPlaces (length s.objects) i → IsInstance s i
 is_instance s i has =
-    let known = each_at (λ toi. (1 ≤ toi) × (toi ≤ length s.objects)) (objects_of i) has.known in
+    let known = All-from_recursion (λ toi. (1 ≤ toi) × (toi ≤ length s.objects)) (objects_of i) has.known in
     record { known = λ at d within. let k = known at d within in record { some = k.0; within = k.1 }; different = has.different }
 
 pub are_instances : (s : Session) (sent : List SentInstance) → AllByRecursion (HasPlaces (length s.objects)) sent → All (IsInstance s) sent
-are_instances s sent all i d within = is_instance s (get_or sent i d) (each_at (HasPlaces (length s.objects)) sent all i d within)
+are_instances s sent all i d within = is_instance s (get_or sent i d) (All-from_recursion (HasPlaces (length s.objects)) sent all i d within)

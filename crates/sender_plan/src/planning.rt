@@ -6,7 +6,7 @@ ghost use Rattle.std.specs.List.{IsDistinct, flat_map, AllByRecursion, list_any,
 ghost use Rattle.std.specs.Str.{bytes_eq};
 ghost use Rattle.wire_bytes.specs.FirstFault.{first_fault};
 ghost use Rattle.carousel_cid.specs.Repeats.{first_places, are_different};
-ghost use Rattle.sender_plan.specs.declared.fault.PlanFault.TheVariants.{Memory};
+ghost use Rattle.sender_plan.specs.declared.fault.PlanFault.TheVariants.{Memory, TooLarge};
 ghost use Rattle.sender_plan.specs.CatalogInstance as specs;
 ghost use Rattle.sender_plan.specs.Names.{names_of};
 ghost use Rattle.sender_plan.specs.Check.{not_rising};
@@ -69,7 +69,14 @@ pub(crate) fn refuse(catalog: &Catalog, bodies: &[Blob], params: &Params) -> Res
     ensures memory { IfErr result (λ fault. fault ≢ Memory) }
 {
     check(catalog, params)?;
-    let total = total_len(bodies);
+    refuse_total(total_len(bodies))
+}
+
+/// Refuses bodies that have together more bytes than they may.
+pub(crate) fn refuse_total(total: u64) -> Result<(), PlanFault>
+    ensures ok { OnOk result (total ≤ 268435456) }
+    ensures err { IfErr result (λ fault. (fault ≡ TooLarge total) × (268435456 < total)) }
+{
     if total > MOST_BYTES {
         return Err(PlanFault::TooLarge { total });
     }

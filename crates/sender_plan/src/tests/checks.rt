@@ -1,4 +1,5 @@
 use super::*;
+use crate::planning::refuse_total;
 
 /// What refuses the catalog of a text.
 fn fault(rt: &HostRuntime, text: &[u8], params: &Params) -> Result<Option<PlanFault>, Fail> {
@@ -64,4 +65,19 @@ fn block_larger_than_its_encoding_symbols(rt: HostRuntime) -> Result<(), Fail> {
     params.max_n = 4;
     assert_eq!(rt; fault(&rt, b"instance\t1\n", &params)?, None);
     Ok(())
+}
+
+#[test]
+fn bodies_that_have_too_many_bytes(rt: HostRuntime) {
+    let cases = [
+        (0, None),
+        (268_435_456, None),
+        (
+            268_435_457,
+            Some(PlanFault::TooLarge { total: 268_435_457 }),
+        ),
+    ];
+    for (total, wanted) in cases {
+        assert_eq!(rt; refuse_total(total).err(), wanted, "of {total} bytes");
+    }
 }

@@ -9,7 +9,8 @@ use Rattle.sender_plan.specs.Content.{same}
 use Rattle.sender_plan.specs.Plan.{body_of, contents, content_bytes, listed_of, session_of, planned}
 use Rattle.sender_plan.specs.Inner.Planning.{IsSendable, body_at}
 use Rattle.sender_plan.proofs.Keeping.{length-objects}
-use Rattle.sender_plan.proofs.Planned.{none_refuses, few_files, each_at, few_contents, is_object, are_instances}
+use Rattle.std.proofs.lemmas.List.Elements.{All-from_recursion}
+use Rattle.sender_plan.proofs.Planned.{none_refuses, few_files, few_contents, is_object, are_instances}
 use Rattle.sender_plan.proofs.Filing.{same_body, places_length, places_within, are_filable}
 use Rattle.sender_plan.proofs.planning.session.Goals as goal
 
@@ -43,13 +44,13 @@ sent_all-requires-clause-within c =
     (λ j. map (slice_get (map (λ (k : Bor (List ℕ)). k.now) (c.as_slice.ensures.bodies j))) (c.deref.ensures.value j)) ∙ c.in_ok-bodies.ensures in
     λ k d within.
     subst (λ n. get_or places k d < n) (length-map c.as_slice.result.now (λ (b : Bor (List ℕ)). b.now))
-    (each_at (λ place. place < length held) places (places_within held places c.args.bodies.now placed) k d within)
+    (All-from_recursion (λ place. place < length held) places (places_within held places c.args.bodies.now placed) k d within)
 
 pub sent_all-requires-clause-few : goal.sent_all-requires-clause-few
 sent_all-requires-clause-few c =
     let none = none_refuses c.args.catalog.now c.args.bodies.now c.args.params.now c.requires.sound in
     subst (λ (is : List CatalogInstance). All (λ i. length i.items ≤ 4096) is) (sym c.as_slice-instances.ensures.instances)
-    (each_at (λ i. length i.items ≤ 4096) c.args.catalog.now (few_files 1 c.args.catalog.now none.few))
+    (All-from_recursion (λ i. length i.items ≤ 4096) c.args.catalog.now (few_files 1 c.args.catalog.now none.few))
 
 pub sent_all-requires-clause-filable : goal.sent_all-requires-clause-filable
 sent_all-requires-clause-filable c =
