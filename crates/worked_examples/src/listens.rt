@@ -79,8 +79,9 @@ fn a_reader_of_nothing(rt: HostRuntime) -> Result<(), Fail> {
 
 #[test]
 fn a_torn_log_has_its_lines(rt: HostRuntime) -> Result<(), Fail> {
-    let log = log_of(rt.alloc(), &[&EMPTY_INSTANCE_DATAGRAM])?;
-    let (status, edge) = listen(&rt, rt.alloc(), &["listen"], &log.as_slice()[..40], NONE)?;
+    let mut log = log_of(rt.alloc(), &[&EMPTY_INSTANCE_DATAGRAM])?;
+    log.truncate(40);
+    let (status, edge) = listen(&rt, rt.alloc(), &["listen"], log.as_slice(), NONE)?;
     assert_eq!(rt; status, 3);
     assert_eq!(rt;
         edge.text.written(),
