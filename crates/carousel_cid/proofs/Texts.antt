@@ -1,14 +1,17 @@
 -- The texts of a list, one after another.
-use Rattle.std.proofs.Common.{◌≡◌, ℕ, zero, suc, ◌+◌, ◌≤◌, ◌<◌, Bool, false, List, [], ◌∷◌, Option, Some, None, refl, sym, ap, ◌∙◌, arith, take, drop, length, get_or}
-use Rattle.std.specs.Prelude.{position}
+use Rattle.std.proofs.Common.{◌≡◌, ℕ, zero, suc, ◌+◌, ◌≤◌, ◌<◌, Bool, false, List, [], ◌∷◌, Option, Some, None, refl, sym, ap, ◌∙◌, arith, take, drop, length, min, get_or}
+use Rattle.std.specs.Prelude.{position, IfSome, MatchOption}
 use Rattle.std.specs.List.{position_or_len, list_any, slice_split}
 use Rattle.std.proofs.lemmas.Bool.{le-leb, lt-leb, or_parts}
 use Rattle.std.proofs.lemmas.List.{drop-drop, length-take, length-drop}
 use Rattle.std.proofs.lemmas.List.Elements.{All-from_get_or}
+use Rattle.std.proofs.lemmas.List.Sums.{sum_by-cons}
 use Rattle.std.proofs.lemmas.List.Splits.{slice_split_first, slice_split_none}
 use Rattle.meta_text.proofs.Public.{found_at, none_at, any_without_place}
 use Rattle.carousel_cid.specs.declared.entry.Entry.{Entry}
-use Rattle.carousel_cid.specs.Inner.Listing.{is_comma, without_line_end, cut_at_commas, texts_in, entry_in, bad_place, identifiers_in, range_in}
+use Rattle.carousel_cid.specs.declared.list.Kept.{Kept}
+use Rattle.carousel_cid.specs.IdentifierList.{size_of}
+use Rattle.carousel_cid.specs.Inner.Listing.{is_comma, without_line_end, cut_at_commas, texts_in, entry_in, bad_place, size_in, count_in, identifiers_in, range_in}
 use Rattle.carousel_cid.specs.Inner.Walks.{texts_from, added_all}
 use Rattle.carousel_cid.proofs.Kept.{added_all-append}
 
@@ -69,6 +72,12 @@ texts_all body (b ∷ bs) is some = ap cut_at_commas (sym is) ∙ sym (from_with
 pub bad_at : (at : ℕ) (texts rest : List (List ℕ)) (text : List ℕ) → texts ≡ text ∷ rest → entry_in text ≡ None → bad_place at texts ≡ Some at
 bad_at at texts rest text first none = rw (first, none) refl
 
+-- what an entry stands for, counted with what the texts behind it do
+pub count_on : (text : List ℕ) (entry : Entry) (texts rest : List (List ℕ)) → texts ≡ text ∷ rest → Some entry ≡ entry_in text
+    → count_in texts ≡ size_of entry + count_in rest
+count_on text entry texts rest first is =
+    ap count_in first ∙ sum_by-cons (λ t. size_in (entry_in t)) text rest ∙ ap (λ e. size_in e + count_in rest) (sym is)
+
 -- the identifiers of an entry, added to those before it
 pub walk_on : (old new text : List ℕ) (entry : Option Entry) (texts rest : List (List ℕ))
     → texts ≡ text ∷ rest → entry ≡ entry_in text → new ≡ added_all old (range_in entry)
@@ -77,3 +86,26 @@ walk_on old new text entry texts rest first is adds =
     ap (λ (ts : List ℕ). added_all ts (identifiers_in rest)) (adds ∙ ap (λ e. added_all old (range_in e)) is)
     ∙ sym (added_all-append old (range_in (entry_in text)) (identifiers_in rest))
     ∙ ap (λ (ts : List (List ℕ)). added_all old (identifiers_in ts)) (sym first)
+
+-- the same of what is kept: with what is to come it stays the whole
+pub kept_walk_on : (old new : Option Kept) (text : List ℕ) (entry : Entry) (texts rest : List (List ℕ)) (whole : List ℕ)
+    → texts ≡ text ∷ rest → Some entry ≡ entry_in text
+    → IfSome new (λ n. MatchOption old ⊥ (λ o. n.listed.items ≡ added_all o.listed.items (range_in (Some entry))))
+    → IfSome old (λ o. added_all o.listed.items (identifiers_in texts) ≡ whole)
+    → IfSome new (λ n. added_all n.listed.items (identifiers_in rest) ≡ whole)
+kept_walk_on old None text entry texts rest whole first is adds all = tt
+kept_walk_on None (Some n) text entry texts rest whole first is adds all = absurd adds
+kept_walk_on (Some o) (Some n) text entry texts rest whole first is adds all =
+    walk_on o.listed.items n.listed.items text (Some entry) texts rest first is adds ∙ all
+
+-- behind the end the walk knows of all texts whether one is bad, and their count up to what is too many
+pub walked : (body list : List ℕ) (at count : ℕ) → list ≡ without_line_end body → 0 < length list → length list < at
+    → bad_place at (texts_from at list) ≡ bad_place 0 (texts_from 0 list)
+    → min (count + count_in (texts_from at list)) 4097 ≡ min (count_in (texts_from 0 list)) 4097
+    → (bad_place 0 (texts_in body) ≡ None) × (min (count_in (texts_in body)) 4097 ≡ min (count + 0) 4097)
+walked body list at count is some end bad counts =
+    let all = texts_all body list is some in
+    let past = from_past at list end in (
+      ap (bad_place 0) all ∙ sym bad ∙ ap (bad_place at) past,
+      ap (λ ts. min (count_in ts) 4097) all ∙ sym counts ∙ ap (λ ts. min (count + count_in ts) 4097) past,
+    )

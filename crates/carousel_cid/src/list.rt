@@ -1,7 +1,6 @@
 //! The list of identifiers that is the body of a descriptor.
-ghost use Rattle.std.specs.Prelude.{◌≡◌, ◌+◌, ◌-◌, ◌≤◌, ◌<◌, ◌^◌, ◌∷◌, length, min, Some, None, OnOk, IfOk, IfErr};
+ghost use Rattle.std.specs.Prelude.{◌≡◌, ◌+◌, ◌-◌, ◌≤◌, ◌<◌, ◌^◌, ◌∷◌, length, min, Some, None, OnOk, IfOk, IfErr, IfSome, MatchOption};
 ghost use Rattle.std.specs.List.{range_with_len};
-ghost use Rattle.std.specs.Option.{ForSome};
 ghost use Rattle.carousel_cid.specs.declared.entry.Entry.{Entry};
 ghost use Rattle.carousel_cid.specs.Inner.Listing as specs;
 ghost use Rattle.carousel_cid.specs.IdentifierList.{size_of};
@@ -18,18 +17,32 @@ use std::collections::BTreeSet;
 /// How many identifiers a descriptor may list, repeats counted.
 const MOST_LISTED: u128 = 4096;
 
-/// How many identifiers a body lists, repeats counted; or what is wrong with it.
+/// The identifiers of a list so far, each at its first place alone.
+#[derive(Drop)]
+struct Kept {
+    listed: Vec<u128>,
+    seen: BTreeSet<u128>,
+}
+
+/// The identifiers that a body lists, each at its first place alone; or what is wrong with it.
+///
+/// It is one walk, which goes on where memory was refused, since that is told only of a list in which nothing is
+/// wrong.
 #[tactic(auto, unfolding(crate::specs::Causes::list_fault))]
-pub(crate) fn list_count(body: &[u8]) -> Result<usize, Cause>
+pub(crate) fn read_list(alloc: Global, body: &[u8]) -> Result<Result<Vec<u128>, AllocError>, Cause>
     ensures sound { OnOk result (list_fault body.now ≡ None) }
-    ensures count { IfOk result (λ n. n ≡ specs.count_in (specs.texts_in body.now)) }
+    ensures listed { IfOk result (λ found. IfOk found (λ v. v.items ≡ first_places (specs.identifiers_in (specs.texts_in body.now)))) }
     ensures fault { IfErr result (λ cause. list_fault body.now ≡ Some cause) }
 {
     let list = without_line_end(body);
     if list.is_empty() {
-        return Ok(0);
+        return Ok(Ok(Vec::new(alloc)));
     }
     let mut count: u128 = 0;
+    let mut kept = Some(Kept {
+        listed: Vec::new(alloc),
+        seen: BTreeSet::new(alloc),
+    });
     let mut at: usize = 0;
     while at <= list.len() {
         let text = text_at(list, at);
@@ -37,12 +50,16 @@ pub(crate) fn list_count(body: &[u8]) -> Result<usize, Cause>
             return Err(Cause::BadList { at: at as u64 });
         };
         count = counted(count, entry);
+        kept = kept_with(kept, entry, count);
         at += text.len() + 1;
     }
     if count > MOST_LISTED {
         return Err(Cause::ListTooLong);
     }
-    Ok(count as usize)
+    match kept {
+        None => Ok(Err(AllocError)),
+        Some(kept) => Ok(Ok(kept.listed)),
+    }
 }
 
 /// A count with the identifiers of an entry more. It stays where it has passed the most.
@@ -55,39 +72,21 @@ fn counted(count: u128, entry: Entry) -> u128
     (count + (entry.last - entry.first + 1)).min(MOST_LISTED + 1)
 }
 
-/// The identifiers that a body lists, each at its first place alone. There are at most so many.
-pub(crate) fn identifiers(alloc: Global, body: &[u8], most: usize) -> Result<Vec<u128>, AllocError>
-    ensures { IfOk result (λ v. v.items ≡ first_places (specs.identifiers_in (specs.texts_in body.now))) }
+/// What is kept with the identifiers of an entry more. Nothing is kept of a list that counts too many identifiers,
+/// nor where memory is refused.
+fn kept_with(kept: Option<Kept>, entry: Entry, count: u128) -> Option<Kept>
+    requires keys { IfSome kept (λ k. AreKeysOf k.seen k.listed.items) }
+    requires fits { entry.last < 2 ^ 112 }
+    ensures all { IfSome result (λ new. MatchOption kept ⊥ (λ old. new.listed.items ≡ added_all old.listed.items (specs.range_in (Some entry)))) }
+    ensures keys { IfSome result (λ new. AreKeysOf new.seen new.listed.items) }
 {
-    let list = without_line_end(body);
-    let mut listed = Vec::with_capacity(alloc, most)?;
-    let mut seen = BTreeSet::new(alloc);
-    if list.is_empty() {
-        return Ok(listed);
+    let mut kept = kept?;
+    if count > MOST_LISTED {
+        return None;
     }
-    let mut at: usize = 0;
-    while at <= list.len() {
-        let text = text_at(list, at);
-        add_entry(&mut listed, &mut seen, read_entry(text))?;
-        at += text.len() + 1;
-    }
-    Ok(listed)
-}
-
-/// Adds the identifiers of an entry that aren't there yet.
-fn add_entry(
-    listed: &mut Vec<u128>,
-    seen: &mut BTreeSet<u128>,
-    entry: Option<Entry>,
-) -> Result<(), AllocError>
-    requires keys { AreKeysOf seen.old listed.old.items }
-    requires fits { ForSome entry (λ e. e.last < 2 ^ 112) }
-    ensures ok { OnOk result (listed.new.items ≡ added_all listed.old.items (specs.range_in entry)) }
-    ensures keys { OnOk result (AreKeysOf seen.new listed.new.items) }
-{
-    match entry {
-        None => Ok(()),
-        Some(entry) => add_range(listed, seen, entry.first, entry.last),
+    match add_range(&mut kept.listed, &mut kept.seen, entry.first, entry.last) {
+        Ok(()) => Some(kept),
+        Err(_) => None,
     }
 }
 

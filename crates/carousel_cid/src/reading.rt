@@ -4,15 +4,15 @@ ghost use Rattle.compound_object.specs.Reading.{parts_of, reading};
 ghost use Rattle.compound_object.specs.declared.fault.CompoundFault.TheVariants as faults;
 ghost use Rattle.carousel_cid.specs.File.{ReadsFile};
 ghost use Rattle.carousel_cid.specs.Descriptor.{ReadsDescriptor};
-ghost use Rattle.carousel_cid.specs.Repeats.{are_different};
+ghost use Rattle.carousel_cid.specs.Repeats.{are_different, first_places};
 ghost use Rattle.carousel_cid.specs.KnownFields as names;
 ghost use Rattle.carousel_cid.specs.KnownFields.{is_known_twice, value_of};
-ghost use Rattle.carousel_cid.specs.Inner.Listing.{texts_in, count_in};
+ghost use Rattle.carousel_cid.specs.Inner.Listing.{texts_in, identifiers_in};
 ghost use Rattle.carousel_cid.specs.Causes as causes;
 ghost use Rattle.carousel_cid.specs.Kinds as kinds;
 ghost use Rattle.carousel_cid.specs.Kinds.{kind_of_parts, kind_of_object, kind_unless, file_in, descriptor_in, code_of, IsUsable};
 
-use crate::list::{identifiers, list_count};
+use crate::list::read_list;
 use crate::number::{number_below, writes_number};
 use crate::{Cause, Identifiers, Kind};
 use compound_object::{Blob, Compound, CompoundFault};
@@ -199,21 +199,26 @@ fn descriptor(alloc: Global, fields: &Fields, body: &[u8]) -> Result<Kind, Alloc
     ensures kind { IfOk result (λ kind. kind ≡ kind_unless (causes.descriptor_fault fields.now body.now) (descriptor_in fields.now body.now)) }
     ensures memory { OnErr result (causes.descriptor_fault fields.now body.now ≡ None) }
 {
-    match numbered_list(fields, body) {
+    match numbered_list(alloc, fields, body) {
         Err(cause) => Ok(Kind::Unusable(cause)),
-        Ok((number, count)) => {
-            let listed = Identifiers::new(identifiers(alloc, body, count)?);
-            Ok(Kind::Descriptor { number, listed })
-        }
+        Ok((number, listed)) => Ok(Kind::Descriptor {
+            number,
+            listed: Identifiers::new(listed?),
+        }),
     }
 }
 
-/// The number of a descriptor, and how many identifiers it lists, repeats counted; or what is wrong with it.
+/// The number of a descriptor and the identifiers that it lists; or what is wrong with it. Memory is told of a
+/// descriptor alone in which nothing is wrong.
 #[tactic(auto, unfolding(crate::specs::Causes::descriptor_fault))]
-fn numbered_list(fields: &Fields, body: &[u8]) -> Result<(u32, usize), Cause>
+fn numbered_list(
+    alloc: Global,
+    fields: &Fields,
+    body: &[u8],
+) -> Result<(u32, Result<Vec<u128>, AllocError>), Cause>
     ensures sound { OnOk result (causes.descriptor_fault fields.now body.now ≡ None) }
     ensures number { IfOk result (λ found. Some found.0 ≡ causes.number_in (value_of names.number_name fields.now)) }
-    ensures count { IfOk result (λ found. found.1 ≡ count_in (texts_in body.now)) }
+    ensures listed { IfOk result (λ found. IfOk found.1 (λ v. v.items ≡ first_places (identifiers_in (texts_in body.now)))) }
     ensures fault { IfErr result (λ cause. causes.descriptor_fault fields.now body.now ≡ Some cause) }
 {
     let text = value(fields, NUMBER);
@@ -223,8 +228,8 @@ fn numbered_list(fields: &Fields, body: &[u8]) -> Result<(u32, usize), Cause>
     let Some(number) = instance_number(text) else {
         return Err(Cause::BadNumber);
     };
-    let count = list_count(body)?;
-    Ok((number, count))
+    let listed = read_list(alloc, body)?;
+    Ok((number, listed))
 }
 
 /// The number that a text says, where it is one of an instance.
