@@ -11,8 +11,35 @@ pub fn checksum(bytes: &[u8]) -> u16
 }
 
 /// The one's complement sum of a number and the words of the bytes.
-#[tactic(auto, using(crate::proofs::OnesSums::ones_sum_small))]
+///
+/// Four words are added at once, as one number of 64 bits: 2^16 is 1 more than a multiple of 65,535, and so are its
+/// powers.
 pub(crate) fn sum_from(start: u16, bytes: &[u8]) -> u16
+    ensures { result ≡ ones_sum (start + word_sum bytes.now) }
+{
+    let mut sum = u128::from(start);
+    let mut rest = bytes;
+    while let [a, b, c, d, e, f, g, h, after @ ..] = rest {
+        sum += u128::from(u64::from_be_bytes([*a, *b, *c, *d, *e, *f, *g, *h]));
+        rest = after;
+    }
+    sum_words(ones(sum), rest)
+}
+
+/// The one's complement sum of words with this plain sum.
+fn ones(plain: u128) -> u16
+    ensures { result ≡ ones_sum plain }
+{
+    if plain == 0 {
+        0
+    } else {
+        ((plain - 1) % 65_535 + 1) as u16
+    }
+}
+
+/// The same as `sum_from`, word by word.
+#[tactic(auto, using(crate::proofs::OnesSums::ones_sum_small))]
+fn sum_words(start: u16, bytes: &[u8]) -> u16
     ensures { result ≡ ones_sum (start + word_sum bytes.now) }
 {
     let mut sum = start;

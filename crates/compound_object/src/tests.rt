@@ -123,12 +123,14 @@ fn faults_in_order(rt: HostRuntime) {
 /// The last two are the example of RFC 1071, section 3, and it with an odd end.
 #[test]
 fn checksums(rt: HostRuntime) {
-    let cases: [(&[u8], u16); 7] = [
+    let cases: [(&[u8], u16); 9] = [
         (b"", 0xFFFF),
         (b"\x00\x00", 0xFFFF),
         (b"\xFF\xFF", 0x0000),
         (b"\xFF\xFF\xFF\xFF\x00\x01", 0xFFFE),
         (b"\x01", 0xFEFF),
+        (&[0xFF; 16], 0x0000),
+        (&[0xFF; 17], 0x00FF),
         (b"\x00\x01\xF2\x03\xF4\xF5\xF6\xF7", 0x220D),
         (b"\x00\x01\xF2\x03\xF4\xF5\xF6\xF7\x22\x0D\x00", 0x0000),
     ];
