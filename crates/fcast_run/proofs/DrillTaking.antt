@@ -1,17 +1,17 @@
 -- What the receiver of a drill holds: that of the deliveries, or of a front of them where it was stopped.
-use Rattle.std.proofs.Common.{◌≡◌, ℕ, List, [], ◌∷◌, ◌++◌, ◌∙◌, sym, ap, arith, length, take, Option}
+use Rattle.std.proofs.Common.{◌≡◌, ℕ, ◌+◌, ◌-◌, ◌^◌, min, List, [], ◌∷◌, ◌++◌, ◌∙◌, sym, ap, arith, length, take, Option}
 use Rattle.std.specs.Prelude.{Result, Ok, Err, OnOk}
 use Rattle.std.proofs.lemmas.List.{take_all}
 use Rattle.carousel_cid.specs.Instances.{Shown}
 use Rattle.object_store.specs.Held.{Held, nothing_held}
-use Rattle.object_store.specs.Verdict.{held_after}
+use Rattle.object_store.specs.Verdict.{held_after, steps_of}
 use Rattle.receiver_core.specs.Best.{installed_after}
-use Rattle.receiver_core.specs.Classes.{packets_of, held_with}
+use Rattle.receiver_core.specs.Classes.{packets_of, held_with, steps_with}
 use Rattle.receiver_core.specs.Receiver.{Receiver}
 use Rattle.fcast_run.specs.Drill.{HoldsPart, sent, delivered, deliveries, after_bodies, summed, summary, installed_of, summary_status, summary_lines, drilled}
 use Rattle.fcast_run.specs.declared.drill.summary.Summary.{Summary}
 use Rattle.fcast_run.specs.Inner.HasTaken.{HasTaken}
-use Rattle.fcast_run.proofs.Taking.{held_one_more}
+use Rattle.fcast_run.proofs.Taking.{held_one_more, steps_one_more}
 
 pub on_ok : {A E : Type 0} (r : Result A E) (P : Type 0) → P → OnOk r P
 on_ok (Ok a) P holds = holds
@@ -31,6 +31,18 @@ pub held_more_is : (r : Receiver) (held : Held) (d : List ℕ) (ds : List (List 
 held_more_is r held d ds tsi budget has is =
     is ∙ held_one_more r d ds has ∙ ap (λ t. held_after r.budget (packets_of t (ds ++ d ∷ []))) tsi
     ∙ ap (λ b. held_after b (packets_of 1 (ds ++ d ∷ []))) budget
+
+-- the row steps with one datagram more, in the words of a drill
+pub steps_more_are : (r : Receiver) (old before after : ℕ) (d : List ℕ) (ds : List (List ℕ)) → r.tsi ≡ 1 → r.budget ≡ 67108864 → HasTaken r ds
+    → before ≡ min (old + steps_of 67108864 (packets_of 1 ds)) (2 ^ 64 - 1) → after ≡ min (before + steps_with r.tsi r.budget r.held d) (2 ^ 64 - 1)
+    → after ≡ min (old + steps_of 67108864 (packets_of 1 (ds ++ d ∷ []))) (2 ^ 64 - 1)
+steps_more_are r old before after d ds tsi budget has was is =
+    let drill : (es : List (List ℕ)) → steps_of r.budget (packets_of r.tsi es) ≡ steps_of 67108864 (packets_of 1 es) =
+    λ es. ap (λ t. steps_of r.budget (packets_of t es)) tsi ∙ ap (λ b. steps_of b (packets_of 1 es)) budget in
+    let more = steps_one_more r d ds has in
+    let these = drill ds in
+    let those = drill (ds ++ d ∷ []) in
+    omega (arith, more, these, those, was, is)
 
 -- the front of so many
 pub front_held : (held : Held) (ds all : List (List ℕ)) (n : ℕ) → ds ≡ take n all → held ≡ held_after 67108864 (packets_of 1 ds) → HoldsPart all held

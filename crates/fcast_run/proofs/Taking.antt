@@ -8,7 +8,7 @@ use Rattle.alc_packet.specs.declared.datagram.Datagram.{Datagram}
 use Rattle.alc_packet.specs.declared.datagram.Datagram.TheVariants as datagrams
 use Rattle.alc_packet.specs.declared.refusal.Refusal.{Refusal}
 use Rattle.object_store.specs.Held.{Held, nothing_held}
-use Rattle.object_store.specs.Verdict.{verdict, step, held_after, is_over_budget}
+use Rattle.object_store.specs.Verdict.{verdict, step, held_after, is_over_budget, steps_from, steps_of}
 use Rattle.object_store.specs.KeptSet.{drops_from, drops}
 use Rattle.object_store.specs.Whole.{whole}
 use Rattle.oti_blocks.specs.Partition.{ObjectInformation}
@@ -16,7 +16,7 @@ use Rattle.std.specs.FinMap.{keys, entries, len-empty, len-entries}
 use Rattle.std.specs.Ordering.{nat_cmp}
 use Rattle.std.proofs.lemmas.List.{nil_from_length, length-map}
 use Rattle.receiver_core.specs.Best.{best, best_of, complete}
-use Rattle.receiver_core.specs.Classes.{taken_of, taken_reply, packet_of_reply, packet_under, packets_of, held_with, held_with_packet, is_drop, drops_with}
+use Rattle.receiver_core.specs.Classes.{taken_of, taken_reply, packet_of_reply, packet_under, packets_of, held_with, held_with_packet, steps_with, steps_with_packet, is_drop, drops_with}
 use Rattle.receiver_core.specs.Receiver.{Receiver}
 use Rattle.receiver_core.specs.declared.taken.Taken.TheVariants as taken
 use Rattle.fcast_run.specs.Inner.HasTaken.{HasTaken}
@@ -56,6 +56,22 @@ drops_at_end tsi budget held (e ∷ ds) d =
     let later = drops_at_end tsi budget (held_with tsi budget held e) ds d in
     let before = drops_more budget held (packet_under tsi e) (packets_of tsi ds) in
     let same = ap (λ h. drops_packet budget h (packet_under tsi d)) (held_more budget held (packet_under tsi e) (packets_of tsi ds)) in
+    omega (arith, first, later, before, same)
+
+-- the row steps of one packet more or none
+steps_more : (budget : ℕ) (held : Held) (o : Option SymbolPacket) (ps : List SymbolPacket)
+    → steps_from budget held (cons_option o ps) ≡ steps_with_packet budget held o + steps_from budget (held_with_packet budget held o) ps
+steps_more budget held None ps = omega arith
+steps_more budget held (Some p) ps = refl
+
+steps_at_end : (tsi budget : ℕ) (held : Held) (ds : List (List ℕ)) (d : List ℕ) → steps_from budget held (packets_of tsi (ds ++ d ∷ []))
+    ≡ steps_from budget held (packets_of tsi ds) + steps_with tsi budget (fold (step budget) held (packets_of tsi ds)) d
+steps_at_end tsi budget held [] d = let e = steps_more budget held (packet_under tsi d) [] in omega (arith, e)
+steps_at_end tsi budget held (e ∷ ds) d =
+    let first = steps_more budget held (packet_under tsi e) (packets_of tsi (ds ++ d ∷ [])) in
+    let later = steps_at_end tsi budget (held_with tsi budget held e) ds d in
+    let before = steps_more budget held (packet_under tsi e) (packets_of tsi ds) in
+    let same = ap (λ h. steps_with tsi budget h d) (held_more budget held (packet_under tsi e) (packets_of tsi ds)) in
     omega (arith, first, later, before, same)
 
 -- a datagram is counted as over the budget just where its packet is
@@ -99,6 +115,14 @@ fresh r tsi budget is = record {
 pub held_one_more : (r : Receiver) (d : List ℕ) (ds : List (List ℕ)) → HasTaken r ds
     → held_with r.tsi r.budget r.held d ≡ held_after r.budget (packets_of r.tsi (ds ++ d ∷ []))
 held_one_more r d ds has = ap (λ h. held_with r.tsi r.budget h d) has.held ∙ sym (held_at_end r.tsi r.budget nothing_held ds d)
+
+-- the row steps with one datagram more
+pub steps_one_more : (r : Receiver) (d : List ℕ) (ds : List (List ℕ)) → HasTaken r ds
+    → steps_of r.budget (packets_of r.tsi ds) + steps_with r.tsi r.budget r.held d ≡ steps_of r.budget (packets_of r.tsi (ds ++ d ∷ []))
+steps_one_more r d ds has =
+    let last = ap (λ h. steps_with r.tsi r.budget h d) has.held in
+    let whole = steps_at_end r.tsi r.budget nothing_held ds d in
+    omega (arith, last, whole)
 
 -- what is installed is the best of what is held
 pub installed_best : (r : Receiver) (ds : List (List ℕ)) → HasTaken r ds → r.installed ≡ best r.held

@@ -1,8 +1,8 @@
 //! The command `drill`.
-ghost use Rattle.std.specs.Prelude.{◌≡◌, true, None, [], IfOk, OnOk, OnErr, length};
+ghost use Rattle.std.specs.Prelude.{◌≡◌, ◌+◌, ◌-◌, ◌^◌, true, None, [], min, IfOk, OnOk, OnErr, length};
 ghost use Rattle.edge_io.specs.Faults.{Rose};
 ghost use Rattle.object_store.specs.Held.{nothing_held};
-ghost use Rattle.object_store.specs.Verdict.{held_after};
+ghost use Rattle.object_store.specs.Verdict.{held_after, steps_of};
 ghost use Rattle.receiver_core.specs.Best.{installed_after};
 ghost use Rattle.receiver_core.specs.Classes.{packets_of};
 ghost use Rattle.fcast_run.specs.Drill as specs;
@@ -42,7 +42,7 @@ const BUDGET: u64 = 67_108_864;
 ///
 /// Twelve files are drawn and sent in three instances; each datagram is lost, delivered or delivered twice, and what is
 /// delivered is put in another order. An error says that there was no memory; then the receiver may have taken some of
-/// the datagrams, the first ones, and row steps may have been added.
+/// the datagrams, the first ones, and row steps may have been added. With `Ok` the row steps are those of the datagrams.
 pub fn drill_into<L>(
     alloc: Global,
     start: u64,
@@ -54,6 +54,7 @@ pub fn drill_into<L>(
     ensures installed { OnOk result (receiver.new.installed ≡ installed_after 67108864 (packets_of 1 (specs.deliveries start))) }
     ensures summary { IfOk result (λ s. s ≡ specs.summary start) }
     ensures part { OnErr result (HoldsPart (specs.deliveries start) receiver.new.held) }
+    ensures count { OnOk result (steps.new.count ≡ min (steps.old.count + steps_of 67108864 (packets_of 1 (specs.deliveries start))) (2 ^ 64 - 1)) }
 {
     let made = deliveries(alloc, start)?;
     feed(receiver, steps, made.datagrams.as_slice())?;

@@ -1,5 +1,5 @@
 -- What becomes of one more packet: the first answer that applies.
-use Rattle.std.specs.Prelude.{ℕ, ◌+◌, ◌-◌, ◌*◌, nat_lt, if◌then◌else◌, Bool, true, false, List, Option, Some, None}
+use Rattle.std.specs.Prelude.{ℕ, ◌+◌, ◌-◌, ◌*◌, nat_lt, if◌then◌else◌, Bool, true, false, List, [], ◌∷◌, Option, Some, None}
 use Rattle.std.specs.List.{fold}
 use Rattle.std.specs.Str.{bytes_eq}
 use Rattle.std.specs.FinMap.{get}
@@ -102,3 +102,12 @@ steps_for held p = (size_at p.oti p.sbn - sources_held held p.toi p.oti p.sbn) *
 
 abbrev pub row_steps : ℕ → Held → SymbolPacket → ℕ
 row_steps budget held p = if completes_block (verdict budget held p) then steps_for (joined held p) p else 0
+
+-- the row steps that packets cost, one after another, the first of which finds this held
+abbrev pub steps_from : ℕ → Held → List SymbolPacket → ℕ
+steps_from budget held [] = 0
+steps_from budget held (p ∷ ps) = row_steps budget held p + steps_from budget (step budget held p) ps
+
+-- and that a list of packets costs
+abbrev pub steps_of : ℕ → List SymbolPacket → ℕ
+steps_of budget ps = steps_from budget nothing_held ps

@@ -1,7 +1,7 @@
 //! The receiver of a drill.
-ghost use Rattle.std.specs.Prelude.{◌≡◌, ◌≤◌, ◌<◌, ◌+◌, ◌-◌, ◌^◌, ◌∷◌, ◌++◌, ◌⊎◌, [], ℕ, List, OnOk, OnErr};
-ghost use Rattle.object_store.specs.Verdict.{held_after};
-ghost use Rattle.receiver_core.specs.Classes.{packets_of};
+ghost use Rattle.std.specs.Prelude.{◌≡◌, ◌≤◌, ◌<◌, ◌+◌, ◌-◌, ◌^◌, ◌∷◌, ◌++◌, ◌⊎◌, [], ℕ, List, min, OnOk, OnErr};
+ghost use Rattle.object_store.specs.Verdict.{held_after, steps_of};
+ghost use Rattle.receiver_core.specs.Classes.{packets_of, steps_with};
 ghost use Rattle.fcast_run.specs.Drill.{HoldsPart};
 ghost use Rattle.fcast_run.specs.Inner.HasTaken.{HasTaken};
 
@@ -23,7 +23,10 @@ pub fn feed<L>(
     ensures budget { receiver.new.budget ≡ 67108864 }
     ensures taken { OnOk result (HasTaken receiver.new datagrams.now) }
     ensures part { OnErr result (HoldsPart datagrams.now receiver.new.held) }
+    ensures count { OnOk result (steps.new.count ≡ min (steps.old.count + steps_of 67108864 (packets_of 1 datagrams.now)) (2 ^ 64 - 1)) }
 {
+    // Read, so that its range is known where there is no datagram.
+    let _count = steps.count();
     for datagram in datagrams {
         feed_one(receiver, steps, datagram.as_slice())?;
     }
@@ -44,6 +47,7 @@ fn feed_one<L>(
     ensures taken { OnOk result ((ds : List (List ℕ)) → receiver.old.drops < 2 ^ 64 - 1 → HasTaken receiver.old ds → HasTaken receiver.new (ds ++ datagram.now ∷ [])) }
     ensures part { OnErr result ((ds : List (List ℕ)) → HasTaken receiver.old ds →
         (receiver.new.held ≡ held_after 67108864 (packets_of 1 ds)) ⊎ (receiver.new.held ≡ held_after 67108864 (packets_of 1 (ds ++ datagram.now ∷ [])))) }
+    ensures count { OnOk result (steps.new.count ≡ min (steps.old.count + steps_with receiver.old.tsi receiver.old.budget receiver.old.held datagram.now) (2 ^ 64 - 1)) }
 {
     receiver.take(datagram, steps)?;
     receiver.settle()?;

@@ -1,5 +1,7 @@
 -- the datagrams before this one are taken
-use Rattle.std.proofs.Common.{◌≡◌, ◌≤◌, take}
+use Rattle.std.proofs.Common.{◌≡◌, ◌+◌, ◌-◌, ◌≤◌, ◌^◌, min, take}
+use Rattle.object_store.specs.Verdict.{steps_of}
+use Rattle.receiver_core.specs.Classes.{packets_of}
 use Rattle.fcast_run.specs.Inner.HasTaken.{HasTaken}
 use Rattle.fcast_run.proofs.drill.feed.feed.Given as goal
 
@@ -8,5 +10,6 @@ invariant-loop-datagram g l = record {
   tsi : l.receiver.tsi ≡ 1;
   budget : l.receiver.budget ≡ 67108864;
   few : l.receiver.drops ≤ l.datagram-index;
+  count : l.steps.count ≡ min (l.fn.steps.count + steps_of 67108864 (packets_of 1 (take l.datagram-index l.datagrams))) (2 ^ 64 - 1);
   taken : HasTaken l.receiver (take l.datagram-index l.datagrams);
 }
