@@ -65,6 +65,31 @@ fn two_readers_are_told_what_is_installed(rt: HostRuntime) -> Result<(), Fail> {
     Ok(())
 }
 
+// Behind the one datagram that is asked for the list is torn, which nobody sees.
+#[test]
+fn datagrams_of_an_address_are_counted(rt: HostRuntime) -> Result<(), Fail> {
+    let mut log = log_of(
+        rt.alloc(),
+        &[&EMPTY_INSTANCE_DATAGRAM, &EMPTY_INSTANCE_DATAGRAM],
+    )?;
+    log.truncate(80);
+    let words = [
+        "listen",
+        "--addr",
+        "127.0.0.1",
+        "--port",
+        "4000",
+        "--count",
+        "1",
+        "--readers",
+        "2",
+    ];
+    let (status, edge) = listen(&rt, rt.alloc(), &words, log.as_slice(), NONE)?;
+    assert_eq!(rt; status, 0);
+    assert!(rt; is_of_two(rt.alloc(), edge.text.written())?);
+    Ok(())
+}
+
 #[test]
 fn a_reader_of_nothing(rt: HostRuntime) -> Result<(), Fail> {
     let log = log_of(rt.alloc(), &[])?;
