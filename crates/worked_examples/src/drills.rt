@@ -1,5 +1,9 @@
 //! What `drill` does. The numbers were reckoned by a program of another language, which goes by docs/FORMATS.md alone.
+//! How many datagrams are sent and delivered, and the row steps of these, are found here once more, from the datagrams
+//! that `send` sends of the same files.
+use crate::deliveries::{deliveries, next, row_steps};
 use crate::playing::{NONE, play};
+use crate::sending::{self, Sent, send};
 use carousel_cid::{FileOf, Instance};
 use fcast_run::{Summary, drill_into};
 use receiver_core::Receiver;
@@ -22,15 +26,31 @@ const SUMMARY_OF_0: Summary = Summary {
 /// Its row steps: for each block that was done, its missing source symbols times its source symbols.
 const STEPS_OF_0: u64 = 19_164;
 
+/// The locations of its files, which are their names too.
+const LOCATIONS: [&str; 12] = [
+    "drill/0", "drill/1", "drill/2", "drill/3", "drill/4", "drill/5", "drill/6", "drill/7",
+    "drill/8", "drill/9", "drill/10", "drill/11",
+];
+
+/// The words that send the catalog of a drill.
+const WORDS: [&str; 13] = [
+    "send",
+    "--catalog",
+    "c",
+    "--tsi",
+    "1",
+    "--symbol",
+    "512",
+    "--block",
+    "32",
+    "--maxn",
+    "48",
+    "--cycles",
+    "2",
+];
+
 /// The files that its third instance leaves out stand in front of this one.
 const FIRST_FILE_OF_3: usize = 4;
-
-/// The next state of the generator.
-fn next(state: u64) -> u64 {
-    state
-        .wrapping_mul(6_364_136_223_846_793_005)
-        .wrapping_add(1_442_695_040_888_963_407)
-}
 
 /// A file that is drawn in this state, and the state behind it.
 fn drawn_file(alloc: Global, state: u64) -> Result<(Vec<u8>, u64), AllocError> {
@@ -44,8 +64,8 @@ fn drawn_file(alloc: Global, state: u64) -> Result<(Vec<u8>, u64), AllocError> {
     Ok((bytes, state))
 }
 
-/// The first twelve files that are drawn from this state on.
-fn drawn_files(alloc: Global, start: u64) -> Result<Vec<Vec<u8>>, AllocError> {
+/// The first twelve files that are drawn from this state on, and the state behind them.
+fn drawn_files(alloc: Global, start: u64) -> Result<(Vec<Vec<u8>>, u64), AllocError> {
     let mut state = start;
     let mut files = Vec::new(alloc);
     for _file in 0..12 {
@@ -53,7 +73,62 @@ fn drawn_files(alloc: Global, start: u64) -> Result<Vec<Vec<u8>>, AllocError> {
         state = after;
         files.push(bytes)?;
     }
-    Ok(files)
+    Ok((files, state))
+}
+
+/// The text of the catalog: three instances of eight files each.
+fn catalog(alloc: Global) -> Result<String, AllocError> {
+    let mut text = String::new(alloc);
+    push_instance(&mut text, "1", &LOCATIONS[0..8])?;
+    push_instance(&mut text, "2", &LOCATIONS[2..10])?;
+    push_instance(&mut text, "3", &LOCATIONS[4..12])?;
+    Ok(text)
+}
+
+fn push_instance(text: &mut String, number: &str, locations: &[&str]) -> Result<(), AllocError> {
+    push_line(text, &["instance\t", number])?;
+    for location in locations {
+        push_line(text, &["file\t", location, "\t", location])?;
+    }
+    Ok(())
+}
+
+fn push_line(text: &mut String, parts: &[&str]) -> Result<(), AllocError> {
+    for part in parts {
+        text.push_str(part)?;
+    }
+    text.push('\n')
+}
+
+/// Sends the catalog with these files.
+fn send_drawn(alloc: Global, drawn: &[Vec<u8>]) -> Result<Sent, AllocError> {
+    let catalog = catalog(alloc)?;
+    let mut files = Vec::new(alloc);
+    files.push(("c", catalog.as_bytes()))?;
+    for (location, bytes) in LOCATIONS.iter().zip(drawn) {
+        files.push((*location, bytes.as_slice()))?;
+    }
+    send(alloc, &WORDS, files.as_slice(), sending::NONE)
+}
+
+/// How many datagrams of a drill are sent and delivered, and the row steps that these take.
+#[derive(Clone, Copy)]
+struct Counts {
+    sent: u64,
+    delivered: u64,
+    steps: u64,
+}
+
+/// What the drill of these files comes to, where this is the generator's state behind them.
+fn counts_of(alloc: Global, drawn: &[Vec<u8>], state: u64) -> Result<Counts, AllocError> {
+    let sent = send_drawn(alloc, drawn)?;
+    let datagrams = sent.edge.emit.sent();
+    let places = deliveries(alloc, datagrams.len(), state)?;
+    Ok(Counts {
+        sent: datagrams.len() as u64,
+        delivered: places.len() as u64,
+        steps: row_steps(alloc, datagrams, places.as_slice())?,
+    })
 }
 
 /// Whether these files are the drawn ones from this place on.
@@ -70,18 +145,13 @@ fn are_drawn(files: &[FileOf], drawn: &[Vec<u8>], first: usize) -> bool {
     true
 }
 
-/// Whether this is the third instance, with its files as they are drawn from this state on.
-fn is_third(alloc: Global, installed: Option<&Instance>, start: u64) -> Result<bool, AllocError> {
+/// Whether this is the third instance, with its files as they are drawn.
+fn is_third(installed: Option<&Instance>, drawn: &[Vec<u8>]) -> bool {
     let Some(instance) = installed else {
-        return Ok(false);
+        return false;
     };
-    let drawn = drawn_files(alloc, start)?;
     let files = instance.files.as_slice();
-    Ok(
-        instance.number == 3
-            && files.len() == 8
-            && are_drawn(files, drawn.as_slice(), FIRST_FILE_OF_3),
-    )
+    instance.number == 3 && files.len() == 8 && are_drawn(files, drawn, FIRST_FILE_OF_3)
 }
 
 #[test]
@@ -111,6 +181,11 @@ fn a_drill_fills_its_receiver(rt: HostRuntime) -> Result<(), Fail> {
     let summary = drill_into(alloc, 0, &mut receiver, &mut steps)?;
     assert!(rt; summary == SUMMARY_OF_0);
     assert_eq!(rt; steps.count(), STEPS_OF_0);
-    assert!(rt; is_third(alloc, receiver.installed(), 0)?);
+    let (drawn, state) = drawn_files(alloc, 0)?;
+    assert!(rt; is_third(receiver.installed(), drawn.as_slice()));
+    let found = counts_of(alloc, drawn.as_slice(), state)?;
+    assert_eq!(rt; found.sent, summary.sent);
+    assert_eq!(rt; found.delivered, summary.delivered);
+    assert_eq!(rt; found.steps, steps.count());
     Ok(())
 }

@@ -4,6 +4,8 @@
 #[cfg(test)]
 mod budgets;
 #[cfg(test)]
+mod deliveries;
+#[cfg(test)]
 mod drills;
 #[cfg(test)]
 mod dumps;
