@@ -3,7 +3,7 @@ use Rattle.std.proofs.Common.{◌≡◌, ℕ, ◌+◌, ◌-◌, ◌^◌, min, Li
 use Rattle.std.specs.Prelude.{Result, Ok, Err, OnOk}
 use Rattle.std.proofs.lemmas.List.{take_all}
 use Rattle.carousel_cid.specs.Instances.{Shown}
-use Rattle.object_store.specs.Held.{Held, nothing_held}
+use Rattle.object_store.specs.Held.{Held}
 use Rattle.object_store.specs.Verdict.{held_after, steps_of}
 use Rattle.receiver_core.specs.Best.{installed_after}
 use Rattle.receiver_core.specs.Classes.{packets_of, held_with, steps_with}
@@ -47,9 +47,6 @@ steps_more_are r old before after d ds tsi budget has was is =
 -- the front of so many
 pub front_held : (held : Held) (ds all : List (List ℕ)) (n : ℕ) → ds ≡ take n all → held ≡ held_after 67108864 (packets_of 1 ds) → HoldsPart all held
 front_held held ds all n front is = record { taken = n; front = is ∙ ap (λ xs. held_after 67108864 (packets_of 1 xs)) front }
-
-pub nothing_taken : (held : Held) (all : List (List ℕ)) → held ≡ nothing_held → HoldsPart all held
-nothing_taken held all is = record { taken = 0; front = is }
 
 pub all_held : (held : Held) (all : List (List ℕ)) → held ≡ held_after 67108864 (packets_of 1 all) → HoldsPart all held
 all_held held all is = front_held held all all (length all) (sym (take_all (length all) all (omega arith))) is

@@ -1,5 +1,5 @@
 -- A list of which a front is taken.
-use Rattle.std.proofs.Common.{◌≡◌, ℕ, zero, suc, ◌+◌, ◌≤◌, ◌<◌, true, false, List, [], ◌∷◌, ◌++◌, ◌∙◌, refl, sym, ap, arith}
+use Rattle.std.proofs.Common.{◌≡◌, ℕ, zero, suc, ◌+◌, ◌≤◌, ◌<◌, false, List, [], ◌∷◌, ◌++◌, ◌∙◌, refl, sym, ap, arith}
 use Rattle.std.proofs.Common.{length, take, drop, Option, length-drop, add-one}
 use Rattle.std.specs.Prelude.{nat_le, nat_lt}
 use Rattle.std.proofs.lemmas.List.{take_all}
@@ -7,7 +7,6 @@ use Rattle.std.proofs.Math.ListN.{drop_of_length-le}
 use Rattle.std.proofs.lemmas.Bool.Decides.{nat_tests}
 use Rattle.fcast_run.specs.declared.bound.Bound.{Bound}
 use Rattle.fcast_run.specs.declared.bound.Bound.TheVariants.{Most, Count}
-use Rattle.fcast_run.specs.declared.ending.Ending.TheVariants.{End, TooMany}
 use Rattle.fcast_run.specs.Outcome.{limit, asked, ending_of, ending_at}
 
 -- of a list with this item behind its first i
@@ -49,16 +48,10 @@ one_behind i most bound xs x rest is all e =
 pub not_more : (n m : ℕ) → m ≤ n → nat_lt n m ≡ false
 not_more n m h = grind (arith, nat_tests)
 
-is_more : (n m : ℕ) → n < m → nat_lt n m ≡ true
-is_more n m h = grind (arith, nat_tests)
-
-as_many : (n m : ℕ) → n ≤ m → nat_le n m ≡ true
-as_many n m h = grind (arith, nat_tests)
-
 not_as_many : (n m : ℕ) → m < n → nat_le n m ≡ false
 not_as_many n m h = grind (arith, nat_tests)
 
--- how the taking ends: none is left of those that may be taken, one more came, or the last that is counted
+-- how the taking ends where none is left of those that may be taken
 pub ends_at : (i : ℕ) (bound : Bound) (left : List (List ℕ)) (torn : Option ℕ) → drop i left ≡ [] → i < limit bound → ending_of bound left torn ≡ ending_at torn
 ends_at i (Most most) left torn e few = let l = nothing_behind i left e in rw (not_more most (length left) (omega (arith, l, few))) refl
 ends_at i (Count count) left torn e few = let l = nothing_behind i left e in rw (not_as_many count (length left) (omega (arith, l, few))) refl
@@ -70,9 +63,3 @@ pub ends_last : (i most : ℕ) (bound : Bound) (left : List (List ℕ)) (torn : 
     → ending_of bound left torn ≡ ending_at torn
 ends_last i most bound left torn is all e =
     ap (λ b. ending_of b left torn) is ∙ ends_behind most left torn (ap (λ n. drop n left) (sym (all ∙ ap limit is)) ∙ e)
-
-pub ends_over : (most : ℕ) (left : List (List ℕ)) (torn : Option ℕ) → most + 1 ≤ length left → ending_of (Most most) left torn ≡ TooMany
-ends_over most left torn more = rw (is_more most (length left) (omega (arith, more))) refl
-
-pub ends_counted : (count : ℕ) (left : List (List ℕ)) (torn : Option ℕ) → count ≤ length left → ending_of (Count count) left torn ≡ End
-ends_counted count left torn enough = rw (as_many count (length left) enough) refl

@@ -41,8 +41,9 @@ const BUDGET: u64 = 67_108_864;
 /// Has the receiver take the datagrams of the drill that starts with this number, and says what came of it.
 ///
 /// Twelve files are drawn and sent in three instances; each datagram is lost, delivered or delivered twice, and what is
-/// delivered is put in another order. An error says that there was no memory; then the receiver may have taken some of
-/// the datagrams, the first ones, and row steps may have been added. With `Ok` the row steps are those of the datagrams.
+/// delivered is put in another order. The row steps that the receiver's solving takes are added. An error says that there
+/// was no memory; then the receiver may have taken some of the datagrams, the first ones, and row steps may have been
+/// added.
 pub fn drill_into<L>(
     alloc: Global,
     start: u64,
