@@ -13,6 +13,3 @@ pub use datagram::{Datagram, Packet};
 pub use reading::read;
 pub use refusal::Refusal;
 pub use writing::write;
-
-#[cfg(test)]
-mod tests;

@@ -1,3 +1,5 @@
+//! An entry of a descriptor's list: an identifier or a range of them.
+
 ghost use Rattle.std.specs.Prelude.{◌≡◌, ◌≤◌, ◌<◌, ◌^◌, IfSome};
 ghost use Rattle.std.specs.Option.{ForSome};
 ghost use Rattle.carousel_cid.specs.Inner.Listing as specs;

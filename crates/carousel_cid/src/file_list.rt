@@ -1,3 +1,5 @@
+//! The list of an instance's files.
+
 ghost use Rattle.std.specs.Prelude.{◌≡◌, IfOk};
 
 use crate::FileOf;

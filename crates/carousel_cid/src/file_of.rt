@@ -1,3 +1,5 @@
+//! A file of an instance.
+
 ghost use Rattle.std.specs.Prelude.{◌≡◌, IfOk, option_map};
 
 use compound_object::Blob;

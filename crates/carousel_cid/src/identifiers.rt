@@ -1,3 +1,5 @@
+//! A list of object identifiers.
+
 ghost use Rattle.std.specs.Prelude.{◌≡◌, IfOk};
 
 use std::alloc::AllocError;

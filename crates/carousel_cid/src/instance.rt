@@ -1,3 +1,5 @@
+//! A carousel instance with its files.
+
 ghost use Rattle.std.specs.Prelude.{◌≡◌, IfOk};
 ghost use Rattle.carousel_cid.specs.Instances.{IsListed};
 

@@ -1,3 +1,5 @@
+//! The kinds of objects, and the causes why one is unusable.
+
 use crate::Identifiers;
 use compound_object::Blob;
 use meta_text::Label;

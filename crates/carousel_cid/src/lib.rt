@@ -11,8 +11,6 @@ pub mod laws;
 mod list;
 mod number;
 mod reading;
-#[cfg(test)]
-mod tests;
 mod writing;
 
 pub use file_list::FileList;

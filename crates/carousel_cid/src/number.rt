@@ -1,3 +1,5 @@
+//! Numbers in ASCII digits.
+
 ghost use Rattle.std.specs.Prelude.{◌≡◌, ◌≤◌, ◌<◌, ◌^◌};
 ghost use Rattle.std.specs.Option.{ForSome};
 ghost use Rattle.carousel_cid.specs.Number as specs;

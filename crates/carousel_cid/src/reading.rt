@@ -1,3 +1,5 @@
+//! What an object is: a file, a descriptor, or neither.
+
 ghost use Rattle.std.specs.Prelude.{◌≡◌, ◌≢◌, ◌↔◌, ◌^◌, ◌<◌, ℕ, List, [], Option, Some, None, IsOk, IfOk, OnOk, OnErr, IfErr, MatchOption, true, unwrap_or};
 ghost use Rattle.std.specs.Option.{option_copied};
 ghost use Rattle.compound_object.specs.Reading.{parts_of, reading};

@@ -1,3 +1,5 @@
+//! The objects of files and of descriptors.
+
 ghost use Rattle.std.specs.Prelude.{◌≡◌, [], ◌≤◌, ◌<◌, ◌+◌, ◌^◌, length, Some, None, true, IfOk, OnOk, ◌++◌, unwrap_or};
 ghost use Rattle.std.specs.Option.{option_copied, ForSome};
 ghost use Rattle.std.specs.List.{AllByRecursion};

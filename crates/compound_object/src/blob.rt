@@ -1,3 +1,5 @@
+//! Bytes in memory of their own.
+
 ghost use Rattle.std.specs.Prelude.{◌≡◌, IfOk};
 
 use std::alloc::AllocError;

@@ -1,3 +1,5 @@
+//! The parts of a compound object.
+
 use meta_text::Fields;
 
 /// What a compound object says.

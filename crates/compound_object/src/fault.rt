@@ -1,3 +1,5 @@
+//! What makes bytes no compound object.
+
 use meta_text::FieldFault;
 
 /// Why bytes are no compound object: the first of these that holds.

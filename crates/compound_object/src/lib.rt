@@ -17,6 +17,3 @@ pub use fault::CompoundFault;
 pub use reading::read;
 pub use sums::checksum;
 pub use writing::write;
-
-#[cfg(test)]
-mod tests;

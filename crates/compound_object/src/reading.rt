@@ -1,3 +1,5 @@
+//! A compound object read from its bytes, or the first fault that holds.
+
 ghost use Rattle.std.specs.Prelude.{ℕ, Bool, List, Ok, IsOk, ◌≡◌, ◌≢◌, ◌≤◌, ◌<◌, ◌^◌, ◌==◌, length, Some, None, OnOk, IfOk, IfErr};
 ghost use Rattle.compound_object.specs.Checksum.{checksum};
 ghost use Rattle.meta_text.specs.Fields.{Pair};

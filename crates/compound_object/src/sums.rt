@@ -1,3 +1,5 @@
+//! The checksum of RFC 1071.
+
 ghost use Rattle.std.specs.Prelude.{◌≡◌, ◌+◌};
 ghost use Rattle.compound_object.specs.Checksum as specs;
 ghost use Rattle.compound_object.specs.Checksum.{ones_sum, word_sum};

@@ -1,3 +1,5 @@
+//! The bytes of a compound object.
+
 ghost use Rattle.std.specs.Prelude.{◌≡◌, ◌≤◌, ◌++◌, ◌∷◌, [], length, Ok, IfOk, OnOk};
 ghost use Rattle.meta_text.specs.Fields.{written};
 ghost use Rattle.compound_object.specs.Object.{first_byte, layout, object_bytes, SpellsObject};

@@ -18,10 +18,10 @@ use Rattle.alc_packet.proofs.Public.{answered}
 use Rattle.object_store.specs.Session as headline
 use Rattle.sender_plan.specs.Session.{Session, SentObject, IsSession, HasObject, object_of, objects_of}
 use Rattle.sender_schedule.specs.Datagram.{sent_of, packet, datagram}
-use Rattle.sender_schedule.specs.Places.{IsPlace, places}
+use Rattle.sender_schedule.specs.SymbolIds.{IsSymbolId, symbol_ids}
 use Rattle.sender_schedule.specs.Schedule.{all_cycles, datagrams_of, object_datagrams, schedule}
 use Rattle.sender_schedule.specs.SymbolRow.{symbol_row}
-use Rattle.sender_schedule.specs.declared.place.Place.{Place}
+use Rattle.sender_schedule.specs.declared.symbol_id.SymbolId.{SymbolId}
 use Rattle.sender_schedule.specs.Belonging.{IsSentOf, Belongs}
 use Rattle.sender_schedule.proofs.Belonging.{each_belongs}
 use Rattle.sender_schedule.proofs.Objects.{All-flat_map, all_known, can_be_sent, schedule_by_objects}
@@ -74,17 +74,17 @@ symbol_bytes rows size j row is = λ k d less.
     let same = get_or_default row k d 0 less in
     omega (arith, byte, symbol.symbol, same)
 
-place_bytes : (s : Session) (toi : ℕ) (o : SentObject) (p : Place) → IsSession s → HasObject s toi → object_of s toi ≡ Some o → IsPlace o.oti p
+place_bytes : (s : Session) (toi : ℕ) (o : SentObject) (p : SymbolId) → IsSession s → HasObject s toi → object_of s toi ≡ Some o → IsSymbolId o.oti p
     → AreBytes (datagram s.tsi o p)
 unfolding datagram
 place_bytes s toi o p session has found is =
     let can = can_be_sent s toi o session has found in
     let x : Sent = sent_of o in
-    let few = few_rows x p.block can.sent is.block in
+    let few = few_rows x p.sbn can.sent is.sbn in
     written_bytes (packet s.tsi o p) (packet_is s.tsi o p session.tsi can is)
-    (symbol_bytes (block_rows x p.block) o.oti.symbol p.symbol (symbol_row (block_rows x p.block) o.oti.symbol p.symbol)
-    (symbol_row_of_bytes (block_rows x p.block) o.oti.symbol p.symbol (λ at less. block_rows_bytes x p.block at can.sent less)
-    (λ at. omega (arith, few, length-block_rows x p.block at))))
+    (symbol_bytes (block_rows x p.sbn) o.oti.symbol p.esi (symbol_row (block_rows x p.sbn) o.oti.symbol p.esi)
+    (symbol_row_of_bytes (block_rows x p.sbn) o.oti.symbol p.esi (λ at less. block_rows_bytes x p.sbn at can.sent less)
+    (λ at. omega (arith, few, length-block_rows x p.sbn at))))
 
 object_bytes : (s : Session) (toi : ℕ) → IsSession s → HasObject s toi → All AreBytes (object_datagrams s toi)
 object_bytes s toi session has = elim (slice_get_cases s.objects (toi - 1)).1 [
@@ -92,7 +92,7 @@ object_bytes s toi session has = elim (slice_get_cases s.objects (toi - 1)).1 [
       let o : SentObject = some.0 in
       let found : object_of s toi ≡ Some o = some.2 in
       subst (λ x. All AreBytes (datagrams_of s.tsi x)) (sym found)
-      (All-map AreBytes (datagram s.tsi o) (places o.oti) (λ k d less. place_bytes s toi o (get_or (places o.oti) k d) session has found (only o.oti k d less)))
+      (All-map AreBytes (datagram s.tsi o) (symbol_ids o.oti) (λ k d less. place_bytes s toi o (get_or (symbol_ids o.oti) k d) session has found (only o.oti k d less)))
   | inr past ↦ absurd (omega (arith, past.0, has.some, has.within))
 ]
 

@@ -1,3 +1,5 @@
+//! IPv4 addresses in words.
+
 ghost use Rattle.std.specs.Prelude.{◌≡◌, option_map};
 ghost use Rattle.fcast_words.specs.Addresses as addresses;
 ghost use Rattle.fcast_words.specs.Inner.Dots as dots;

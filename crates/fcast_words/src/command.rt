@@ -1,3 +1,5 @@
+//! The commands and their values.
+
 use meta_text::Label;
 
 /// A command, with a value for each of its options. An option that may be left out and has no default

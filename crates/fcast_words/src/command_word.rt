@@ -1,3 +1,5 @@
+//! The words of the commands, and the options of each.
+
 ghost use Rattle.std.specs.Prelude.{◌≡◌, map};
 ghost use Rattle.fcast_words.specs.Table.{command_named, options_of};
 ghost use Rattle.fcast_words.specs.Inner.Parser.{dashed};

@@ -1,3 +1,5 @@
+//! Each command with the values of its options.
+
 ghost use Rattle.std.specs.Prelude.{◌≡◌, Some, None, IfOk, IfErr};
 ghost use Rattle.fcast_words.specs.Pairs.{Pairs};
 ghost use Rattle.fcast_words.specs.Words as spec;

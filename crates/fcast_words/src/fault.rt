@@ -1,3 +1,5 @@
+//! Why words were not read as a command.
+
 ghost use Rattle.std.specs.Prelude.{◌≡◌};
 ghost use Rattle.fcast_words.specs.declared.fault.WordFault.TheVariants.{Memory};
 

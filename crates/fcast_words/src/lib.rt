@@ -20,6 +20,3 @@ mod shape;
 pub use command::Command;
 pub use fault::WordFault;
 pub use read::read_words;
-
-#[cfg(test)]
-mod tests;

@@ -1,3 +1,5 @@
+//! Numbers of decimal digits, in a range.
+
 ghost use Rattle.std.specs.Prelude.{◌≡◌, ◌≤◌, IfSome, option_map};
 ghost use Rattle.std.specs.List.{list_all};
 ghost use Rattle.fcast_words.specs.Numbers as numbers;

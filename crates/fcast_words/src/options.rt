@@ -1,3 +1,5 @@
+//! The value of each option, in its range and with its default.
+
 ghost use Rattle.std.specs.Prelude.{◌≡◌, option_and_then, option_map};
 ghost use Rattle.fcast_words.specs.Addresses as addresses;
 ghost use Rattle.fcast_words.specs.Pairs.{Pairs, given};

@@ -1,3 +1,5 @@
+//! The values of options, from names and values in turn.
+
 ghost use Rattle.std.specs.Prelude.{◌≡◌, ◌≢◌, map, true, None, IfOk, IfErr};
 ghost use Rattle.clap.specs.Values.{kind_of};
 ghost use Rattle.clap.specs.declared.error.kind.ErrorKind.TheVariants as kind;

@@ -1,3 +1,5 @@
+//! The parser of a command's options.
+
 ghost use Rattle.std.specs.Prelude.{◌≡◌, [], map, false, IfOk};
 ghost use Rattle.clap.specs.Walk.{rule_of};
 ghost use Rattle.clap.specs.Simple.{app_of, with_rule};

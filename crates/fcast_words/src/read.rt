@@ -1,3 +1,5 @@
+//! The words of a command line, read as a command.
+
 ghost use Rattle.std.specs.Prelude.{◌≡◌, Some, None, true, map, option_and_then, IfOk, IfErr};
 ghost use Rattle.fcast_words.specs.Pairs.{map_of};
 ghost use Rattle.fcast_words.specs.Shape.{has_shape, is_line};

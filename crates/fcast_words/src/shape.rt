@@ -1,3 +1,5 @@
+//! The shape of options: names and values in turn, no name twice.
+
 ghost use Rattle.std.specs.Prelude.{◌≡◌};
 ghost use Rattle.fcast_words.specs.Pairs as pairs;
 ghost use Rattle.fcast_words.specs.Shape as shape;

@@ -1,3 +1,5 @@
+//! Elements of the field: sums, products, inverses and powers of alpha.
+
 ghost use Rattle.std.specs.Prelude.{◌≡◌, ◌≢◌, bit_xor};
 ghost use Rattle.gf256.specs.Field.{product};
 ghost use Rattle.gf256.specs.Polynomial.{power};

@@ -1,3 +1,5 @@
+//! The products of each element with the halves of bytes, in one table.
+
 /// The products of each element with the low and with the high halves of bytes: 32 numbers an element, its
 /// products with 0, 1, .., 15, and then those with 0, 16, .., 240.
 pub(crate) static PRODUCTS: [u8; 8192] = [

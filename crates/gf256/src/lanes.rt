@@ -1,3 +1,5 @@
+//! The products of sixteen bytes at once, by their halves.
+
 ghost use Rattle.std.specs.Prelude.{ℕ, ◌≡◌, ◌+◌, ◌*◌, ◌<◌, ◌≤◌, length, map, slice_index, bit_xor};
 ghost use lib.Lanes.{chunk, put_chunk, zip2};
 ghost use Rattle.gf256.specs.Field.{product};

@@ -9,8 +9,6 @@ pub mod laws;
 mod logarithm;
 mod polynomial;
 mod row;
-#[cfg(test)]
-mod tests;
 
 pub use element::{Gf, add, inv, mul, power};
 pub use polynomial::eval;

@@ -1,3 +1,5 @@
+//! The logarithms of the elements and the powers of alpha, as tables.
+
 ghost use Rattle.std.specs.Prelude.{◌≡◌, ◌≢◌, ◌<◌};
 ghost use Rattle.gf256.specs.Polynomial.{power};
 

@@ -1,3 +1,5 @@
+//! Values of polynomials over the field.
+
 ghost use Rattle.std.specs.Prelude.{◌≡◌};
 ghost use Rattle.gf256.specs.Polynomial.{value};
 

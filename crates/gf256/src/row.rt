@@ -1,3 +1,5 @@
+//! Sums of rows, sixteen bytes at a step.
+
 ghost use Rattle.std.specs.Prelude.{◌≡◌, length};
 ghost use Rattle.gf256.specs.Row.{added_row};
 

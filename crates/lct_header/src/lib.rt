@@ -16,6 +16,3 @@ pub use fault::HeaderFault;
 pub use header::{Header, HeaderView, extensions};
 pub use reading::read;
 pub use writing::write;
-
-#[cfg(test)]
-mod tests;

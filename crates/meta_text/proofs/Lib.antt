@@ -7,6 +7,6 @@ pub mod Runs
 pub mod Lookups
 pub mod Written
 pub mod Public
-pub mod PairPlaces
+pub mod PairSpans
 pub mod Sound
 pub mod LineLaws

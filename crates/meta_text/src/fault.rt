@@ -1,3 +1,5 @@
+//! What makes a text no text of fields.
+
 ghost use Rattle.std.specs.Prelude.{◌≡◌};
 ghost use Rattle.meta_text.specs.declared.fault.FieldFault.TheVariants.{Memory};
 

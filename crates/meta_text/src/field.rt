@@ -1,3 +1,5 @@
+//! The answer to a look for a name among fields.
+
 /// What fields have under a name.
 #[derive(Clone, Copy, Debug, PartialEq, Eq)]
 pub enum Field<'a> {

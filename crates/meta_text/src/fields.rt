@@ -1,3 +1,5 @@
+//! Fields: pairs of a name and a value, kept in one text.
+
 ghost use Rattle.std.specs.Prelude.{ℕ, List, ◌≡◌, ◌<◌, ◌+◌, ◌-◌, ◌^◌, ◌++◌, [], ◌∷◌, length, min, slice_get, Some, Ok, IsOk, IfOk, IfErr, OnOk, OnErr};
 ghost use Rattle.std.specs.Str.{IsUtf8};
 ghost use Rattle.meta_text.specs.Text.{IsName, IsValue};
@@ -5,11 +7,11 @@ ghost use Rattle.meta_text.specs.Fields.{line_of, written};
 ghost use Rattle.meta_text.specs.Reading as readings;
 ghost use Rattle.meta_text.specs.Reading.{Gives};
 ghost use Rattle.meta_text.specs.Lookup.{values_of, Finds};
-ghost use Rattle.meta_text.specs.Inner.Places.{name_at, value_at, pair_at, pairs_at, IsPlace, ArePlaces, Extends};
+ghost use Rattle.meta_text.specs.Inner.Spans.{name_at, value_at, pair_at, pairs_at, IsSpan, AreSpans, Extends};
 
 use crate::fault::FieldFault;
 use crate::field::Field;
-use crate::place::Place;
+use crate::span::Span;
 use crate::reading;
 use std::alloc::{AllocError, Global};
 use std::marker::Model;
@@ -22,18 +24,18 @@ use std::str;
 pub struct Fields {
     /// The names and values, one behind the other.
     text: Vec<u8>,
-    places: Vec<Place>,
+    spans: Vec<Span>,
 }
 
 impl Model for Fields {
     ghost use Rattle.std.specs.Prelude.{ℕ, List};
-    ghost use Rattle.meta_text.specs.Inner.Places.{pairs_at, ArePlaces};
+    ghost use Rattle.meta_text.specs.Inner.Spans.{pairs_at, AreSpans};
 
     ghost Value = { List (List ℕ × List ℕ) };
 
-    ghost view = { λ a. pairs_at a.text.items a.places.items };
+    ghost view = { λ a. pairs_at a.text.items a.spans.items };
 
-    ghost invariant = { λ a. ArePlaces a.text.items a.places.items };
+    ghost invariant = { λ a. AreSpans a.text.items a.spans.items };
 }
 
 impl Fields {
@@ -43,7 +45,7 @@ impl Fields {
     {
         Fields {
             text: Vec::new(alloc),
-            places: Vec::new(alloc),
+            spans: Vec::new(alloc),
         }
     }
 
@@ -57,7 +59,7 @@ impl Fields {
     {
         Ok(Fields {
             text: Vec::with_capacity(alloc, bytes)?,
-            places: Vec::with_capacity(alloc, pairs)?,
+            spans: Vec::with_capacity(alloc, pairs)?,
         })
     }
 
@@ -65,16 +67,16 @@ impl Fields {
     pub fn len(&self) -> usize
         ensures { result ≡ length self.now }
     {
-        self.places.len()
+        self.spans.len()
     }
 
-    /// The name and the value of the pair at a place, counted from 0.
+    /// The name and the value of the pair at an index, counted from 0.
     pub fn pair(&self, i: usize) -> (&str, &str)
         requires { i < length self.now }
         ensures { slice_get self.now i ≡ Some (result.0.now, result.1.now) }
     {
-        let place = self.places[i];
-        (name(&self.text, place), value(&self.text, place))
+        let span = self.spans[i];
+        (name(&self.text, span), value(&self.text, span))
     }
 
     /// Adds a pair at the end. Without memory for it, the fields are as they were.
@@ -84,7 +86,7 @@ impl Fields {
         ensures ok { OnOk result (self.new ≡ self.old ++ (name.now, value.now) ∷ []) }
         ensures err { OnErr result (self.new ≡ self.old) }
     {
-        push_pair(&mut self.text, &mut self.places, name, value)
+        push_pair(&mut self.text, &mut self.spans, name, value)
     }
 
     /// The fields of a text, or the fault of its first faulty line.
@@ -104,7 +106,7 @@ impl Fields {
     pub fn get(&self, name: &str) -> Field<'_>
         ensures { Finds result (values_of name.now self.now) }
     {
-        find(&self.text, &self.places, name)
+        find(&self.text, &self.spans, name)
     }
 
     /// The text of the fields: name, colon, space, value and CR LF for each pair in order.
@@ -123,31 +125,31 @@ impl Fields {
         ensures text { OnOk result (out.new.items ≡ out.old.items ++ written self.now) }
         ensures read_again { readings.reading (written self.now) ≡ Ok self.now }
     {
-        push_lines(out, &self.text, &self.places)
+        push_lines(out, &self.text, &self.spans)
     }
 
     /// How many bytes the text of the fields has.
     pub fn written_len(&self) -> usize
         ensures { result ≡ min (length (written self.now)) (2 ^ 64 - 1) }
     {
-        lines_len(&self.text, &self.places)
+        lines_len(&self.text, &self.spans)
     }
 }
 
-/// The name at a place.
-fn name(text: &[u8], place: Place) -> &str
-    requires { IsPlace text.now place }
-    ensures { result.now ≡ name_at text.now place }
+/// The name of a span.
+fn name(text: &[u8], span: Span) -> &str
+    requires { IsSpan text.now span }
+    ensures { result.now ≡ name_at text.now span }
 {
-    as_text(&text[place.start as usize..place.middle as usize])
+    as_text(&text[span.start as usize..span.middle as usize])
 }
 
-/// The value at a place.
-fn value(text: &[u8], place: Place) -> &str
-    requires { IsPlace text.now place }
-    ensures { result.now ≡ value_at text.now place }
+/// The value of a span.
+fn value(text: &[u8], span: Span) -> &str
+    requires { IsSpan text.now span }
+    ensures { result.now ≡ value_at text.now span }
 {
-    as_text(&text[place.middle as usize..place.end as usize])
+    as_text(&text[span.middle as usize..span.end as usize])
 }
 
 /// Bytes that are UTF-8, as text.
@@ -163,26 +165,26 @@ fn as_text(bytes: &[u8]) -> &str
 
 fn push_pair(
     text: &mut Vec<u8>,
-    places: &mut Vec<Place>,
+    spans: &mut Vec<Span>,
     name: &str,
     value: &str,
 ) -> Result<(), AllocError>
-    requires places { ArePlaces text.old.items places.old.items }
+    requires spans { AreSpans text.old.items spans.old.items }
     requires name { IsName name.now }
     requires value { IsValue value.now }
-    ensures places { ArePlaces text.new.items places.new.items }
-    ensures ok { OnOk result (pairs_at text.new.items places.new.items ≡ pairs_at text.old.items places.old.items ++ (name.now, value.now) ∷ []) }
-    ensures err { OnErr result (pairs_at text.new.items places.new.items ≡ pairs_at text.old.items places.old.items) }
+    ensures spans { AreSpans text.new.items spans.new.items }
+    ensures ok { OnOk result (pairs_at text.new.items spans.new.items ≡ pairs_at text.old.items spans.old.items ++ (name.now, value.now) ∷ []) }
+    ensures err { OnErr result (pairs_at text.new.items spans.new.items ≡ pairs_at text.old.items spans.old.items) }
 {
-    let place = push_text(text, name, value)?;
-    places.push(place)?;
+    let span = push_text(text, name, value)?;
+    spans.push(span)?;
     Ok(())
 }
 
 /// Adds a name and a value to the text, and says where they stand.
-fn push_text(text: &mut Vec<u8>, name: &str, value: &str) -> Result<Place, AllocError>
+fn push_text(text: &mut Vec<u8>, name: &str, value: &str) -> Result<Span, AllocError>
     ensures text { OnOk result (text.new.items ≡ text.old.items ++ (name.now ++ value.now)) }
-    ensures place { IfOk result (λ place. place ≡ record {
+    ensures span { IfOk result (λ span. span ≡ record {
       start = length text.old.items;
       middle = length text.old.items + length name.now;
       end = length text.old.items + length name.now + length value.now;
@@ -194,10 +196,10 @@ fn push_text(text: &mut Vec<u8>, name: &str, value: &str) -> Result<Place, Alloc
     let middle = offset(text.len())?;
     text.extend_from_slice(value.as_bytes())?;
     let end = offset(text.len())?;
-    Ok(Place { start, middle, end })
+    Ok(Span { start, middle, end })
 }
 
-/// A place in the text as it is kept. There is no room for a text of 4 GiB.
+/// An offset in the text as it is kept. There is no room for a text of 4 GiB.
 fn offset(at: usize) -> Result<u32, AllocError>
     ensures { IfOk result (λ offset. offset ≡ at) }
 {
@@ -207,72 +209,72 @@ fn offset(at: usize) -> Result<u32, AllocError>
     }
 }
 
-fn find<'a>(text: &'a [u8], places: &[Place], name: &str) -> Field<'a>
-    requires { ArePlaces text.now places.now }
-    ensures { Finds result (values_of name.now (pairs_at text.now places.now)) }
+fn find<'a>(text: &'a [u8], spans: &[Span], name: &str) -> Field<'a>
+    requires { AreSpans text.now spans.now }
+    ensures { Finds result (values_of name.now (pairs_at text.now spans.now)) }
 {
     let mut found = Field::Absent;
-    for place in places {
-        found = noted(found, text, place, name);
+    for span in spans {
+        found = noted(found, text, span, name);
     }
     found
 }
 
-/// What was found so far, and the pair at a place after it.
-fn noted<'a>(found: Field<'a>, text: &'a [u8], place: &Place, wanted: &str) -> Field<'a>
-    requires { IsPlace text.now place.now }
+/// What was found so far, and the pair of a span after it.
+fn noted<'a>(found: Field<'a>, text: &'a [u8], span: &Span, wanted: &str) -> Field<'a>
+    requires { IsSpan text.now span.now }
     ensures { (values : List (List ℕ)) → Finds found.entry values
-        → Finds result (values ++ values_of wanted.now (pair_at text.now place.now ∷ [])) }
+        → Finds result (values ++ values_of wanted.now (pair_at text.now span.now ∷ [])) }
 {
-    if !name(text, *place).eq_ignore_ascii_case(wanted) {
+    if !name(text, *span).eq_ignore_ascii_case(wanted) {
         return found;
     }
     match found {
-        Field::Absent => Field::Once(value(text, *place)),
+        Field::Absent => Field::Once(value(text, *span)),
         Field::Once(_) => Field::Twice,
         Field::Twice => Field::Twice,
     }
 }
 
-fn push_lines(out: &mut Vec<u8>, text: &[u8], places: &[Place]) -> Result<(), AllocError>
-    requires { ArePlaces text.now places.now }
-    ensures { OnOk result (out.new.items ≡ out.old.items ++ written (pairs_at text.now places.now)) }
+fn push_lines(out: &mut Vec<u8>, text: &[u8], spans: &[Span]) -> Result<(), AllocError>
+    requires { AreSpans text.now spans.now }
+    ensures { OnOk result (out.new.items ≡ out.old.items ++ written (pairs_at text.now spans.now)) }
 {
-    for place in places {
-        push_line(out, text, *place)?;
+    for span in spans {
+        push_line(out, text, *span)?;
     }
     Ok(())
 }
 
-fn push_line(out: &mut Vec<u8>, text: &[u8], place: Place) -> Result<(), AllocError>
-    requires { IsPlace text.now place }
-    ensures { OnOk result (out.new.items ≡ out.old.items ++ line_of (pair_at text.now place)) }
+fn push_line(out: &mut Vec<u8>, text: &[u8], span: Span) -> Result<(), AllocError>
+    requires { IsSpan text.now span }
+    ensures { OnOk result (out.new.items ≡ out.old.items ++ line_of (pair_at text.now span)) }
 {
-    out.extend_from_slice(name(text, place).as_bytes())?;
+    out.extend_from_slice(name(text, span).as_bytes())?;
     out.extend_from_slice(b": ")?;
-    out.extend_from_slice(value(text, place).as_bytes())?;
+    out.extend_from_slice(value(text, span).as_bytes())?;
     out.extend_from_slice(b"\r\n")?;
     Ok(())
 }
 
-fn lines_len(text: &[u8], places: &[Place]) -> usize
-    requires { ArePlaces text.now places.now }
-    ensures { result ≡ min (length (written (pairs_at text.now places.now))) (2 ^ 64 - 1) }
+fn lines_len(text: &[u8], spans: &[Span]) -> usize
+    requires { AreSpans text.now spans.now }
+    ensures { result ≡ min (length (written (pairs_at text.now spans.now))) (2 ^ 64 - 1) }
 {
     let mut len: usize = 0;
-    for place in places {
-        len = with_line(len, text, *place);
+    for span in spans {
+        len = with_line(len, text, *span);
     }
     len
 }
 
-/// A length with the line of the pair at a place more.
-fn with_line(len: usize, text: &[u8], place: Place) -> usize
-    requires { IsPlace text.now place }
-    ensures { result ≡ min (len + length (line_of (pair_at text.now place))) (2 ^ 64 - 1) }
+/// A length with the line of the pair of a span more.
+fn with_line(len: usize, text: &[u8], span: Span) -> usize
+    requires { IsSpan text.now span }
+    ensures { result ≡ min (len + length (line_of (pair_at text.now span))) (2 ^ 64 - 1) }
 {
-    let name = name(text, place).len();
-    let value = value(text, place).len();
+    let name = name(text, span).len();
+    let value = value(text, span).len();
     len.saturating_add(name)
         .saturating_add(value)
         .saturating_add(4)

@@ -1,3 +1,5 @@
+//! A text of its own memory.
+
 ghost use Rattle.std.specs.Prelude.{◌≡◌, IfOk, string_bytes};
 
 use std::alloc::AllocError;

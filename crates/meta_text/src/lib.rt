@@ -10,8 +10,8 @@ mod fields;
 mod label;
 pub mod laws;
 mod lines;
-mod place;
 mod reading;
+mod span;
 mod text;
 
 pub use fault::FieldFault;
@@ -20,6 +20,3 @@ pub use fields::Fields;
 pub use label::Label;
 pub use lines::{clean_text, place_of, split_line, without_return};
 pub use text::{is_name, is_value};
-
-#[cfg(test)]
-mod tests;

@@ -1,3 +1,5 @@
+//! Lines cut from a text, and bytes that are clean text.
+
 ghost use Rattle.std.specs.Prelude.{◌≡◌, ◌<◌, ◌==◌, ◌∷◌, [], length, Some, None, IfOk, IfErr, IfSome, IfNone, position, true, false};
 ghost use Rattle.meta_text.specs.Text.{IsName, IsValue, is_name, is_clean, trimmed};
 ghost use Rattle.meta_text.specs.Lines.{lines_of, without_return, name_in, value_in};

@@ -1,3 +1,5 @@
+//! Fields read from a text, or its first fault.
+
 ghost use Rattle.std.specs.Prelude.{◌≡◌, ◌≢◌, ◌≤◌, ◌++◌, ◌∷◌, [], Some, None, IsOk, OnOk, OnErr, IfOk, IfErr};
 ghost use Rattle.meta_text.specs.declared.fault.FieldFault.TheVariants.{Memory};
 ghost use Rattle.meta_text.specs.Lines.{numbered, lines_of, pairs_in};

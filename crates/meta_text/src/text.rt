@@ -1,3 +1,5 @@
+//! Which texts are names and values, and texts without the blanks at their ends.
+
 ghost use Rattle.std.specs.Prelude.{◌≡◌, ◌↔◌, IsTrue};
 ghost use Rattle.std.specs.List.{list_all};
 ghost use Rattle.meta_text.specs.Text as specs;

@@ -11,6 +11,3 @@ mod wire;
 pub use fault::OtiFault;
 pub use information::Oti;
 pub use wire::{FTI_START, FTI_TYPE, read_fti};
-
-#[cfg(test)]
-mod tests;

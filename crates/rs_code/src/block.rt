@@ -1,3 +1,5 @@
+//! The source rows of a block, and the weights of its symbols.
+
 ghost use Rattle.std.specs.Prelude.{ℕ, ◌≡◌, ◌≤◌, ◌<◌, ◌*◌, length, slice_index};
 ghost use Rattle.std.specs.List.{range_with_len};
 ghost use Rattle.rs_code.specs.SourceRows.{AreRows, column, rows_of};

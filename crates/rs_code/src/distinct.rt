@@ -1,3 +1,5 @@
+//! Whether a list is one of places.
+
 ghost use Rattle.std.specs.Prelude.{ℕ, ◌≡◌, ◌≢◌, ◌<◌, false, length, slice_index, IsTrue};
 ghost use Rattle.rs_code.specs.Weights.{ArePlaces};
 

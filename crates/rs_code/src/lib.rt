@@ -8,8 +8,6 @@ mod distinct;
 pub mod laws;
 mod places;
 mod symbol;
-#[cfg(test)]
-mod tests;
 
 pub use block::Block;
 pub use distinct::are_places;

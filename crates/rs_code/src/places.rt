@@ -1,3 +1,5 @@
+//! Places whose values are known, and the weights with which they make the value at another.
+
 ghost use Rattle.std.specs.Prelude.{◌≡◌, ◌≤◌, ◌<◌, ◌≢◌, All, length, slice_index, IfSome, IfNone};
 ghost use Rattle.std.specs.List.{range_with_len};
 ghost use Rattle.gf256.specs.Field.{product};

@@ -1,3 +1,5 @@
+//! The encoding symbols of a block, and where bytes first differ from one.
+
 ghost use Rattle.std.specs.Prelude.{ℕ, ◌≡◌, ◌≤◌, ◌<◌, ◌+◌, ◌-◌, length, slice_index, unwrap_or, IfSome};
 ghost use Rattle.std.specs.List.{range_with_len};
 ghost use Rattle.rs_code.specs.SourceRows.{IsSymbolRow, column, rows_of};

@@ -5,8 +5,6 @@ pub mod laws;
 mod solver;
 mod source;
 mod steps;
-#[cfg(test)]
-mod tests;
 
 pub use solver::solve;
 pub use steps::Steps;

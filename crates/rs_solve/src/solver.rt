@@ -1,3 +1,5 @@
+//! A block from any k of its encoding symbols.
+
 ghost use Rattle.std.specs.Prelude.{◌≡◌, ◌≤◌, ◌<◌, ◌+◌, ◌-◌, ◌*◌, ◌^◌, ℕ, length, min, IfOk, OnOk, OnErr};
 ghost use Rattle.rs_code.specs.Weights.{ArePlaces};
 ghost use Rattle.rs_solve.specs.Solution.{IsSolution, missing, row_at};

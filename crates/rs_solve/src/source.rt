@@ -1,3 +1,5 @@
+//! One source row of a block that is solved.
+
 ghost use Rattle.std.specs.Prelude.{ℕ, ◌≡◌, ◌≤◌, ◌<◌, ◌+◌, ◌-◌, ◌*◌, ◌^◌, ◌==◌, slice_index, if◌then◌else◌, length, min};
 ghost use Rattle.std.specs.List.{list_any};
 ghost use Rattle.rs_code.specs.SourceRows.{column, cut};

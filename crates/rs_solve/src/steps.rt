@@ -1,3 +1,5 @@
+//! Row steps and their count.
+
 ghost use Rattle.std.specs.Prelude.{◌≡◌, ◌+◌, ◌-◌, ◌^◌, length, min};
 ghost use Rattle.gf256.specs.Row.{added_row};
 
@@ -19,12 +21,6 @@ impl<L> Steps<L> {
         ensures count { result.count ≡ 0 }
     {
         Steps { ledger, count: 0 }
-    }
-
-    /// So many steps, under the ledger.
-    #[cfg(test)]
-    pub(crate) fn counted(ledger: L, count: u64) -> Steps<L> {
-        Steps { ledger, count }
     }
 
     /// How many steps were taken. The count stays at 2^64 - 1 once there.

@@ -10,9 +10,9 @@ use Rattle.std.proofs.lemmas.List.{drop_more}
 use Rattle.std.proofs.lemmas.Str.{IsUtf8-between, IsUtf8-take, IsCharBoundary-end, IsCharBoundary-before_ascii, IsCharBoundary-after_ascii}
 use Rattle.meta_text.specs.Lines.{lines_of}
 use Rattle.meta_text.specs.Text.{is_clean}
-use Rattle.meta_text.proofs.Clean.{clean_is_utf8}
+use Rattle.meta_text.proofs.Public.{clean_is_utf8}
 use Rattle.carousel_cid.specs.Number.{number_below}
-use Rattle.carousel_cid.proofs.Numbers.{number_from}
+use Rattle.carousel_cid.proofs.Public.{number_from}
 use Rattle.wire_bytes.specs.FirstFault.{fault_when, first_fault, unless_fault}
 use Rattle.wire_bytes.proofs.Public.{none_hold, cause_fails}
 use Rattle.sender_plan.specs.declared.fault.BadLine.{BadLine}

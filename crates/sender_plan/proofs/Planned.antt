@@ -30,11 +30,6 @@ pub not_mapped : {X Y : Type 0} (f : X → Y) (o : Option X) → option_map f o 
 not_mapped f None is = refl
 not_mapped f (Some x) is = absurd cc
 
-first_front : (faults more : List (Option PlanFault)) (fault : PlanFault) → first_fault faults ≡ Some fault → first_fault (faults ++ more) ≡ Some fault
-first_front [] more fault is = absurd cc
-first_front (None ∷ faults) more fault is = first_front faults more fault is
-first_front (Some first ∷ faults) more fault is = is
-
 first_back : (faults more : List (Option PlanFault)) → first_fault faults ≡ None → first_fault (faults ++ more) ≡ first_fault more
 first_back [] more none = refl
 first_back (None ∷ faults) more none = first_back faults more none
@@ -47,14 +42,6 @@ none_front (Some first ∷ faults) more none = absurd cc
 
 abbrev large : List (List ℕ) → List (Option PlanFault)
 large bodies = fault_when (nat_lt most_bytes (total_of bodies)) (TooLarge (total_of bodies)) ∷ []
-
-pub refused_first : (instances : List CatalogInstance) (bodies : List (List ℕ)) (params : Params) (fault : PlanFault)
-    → first_fault (check_faults instances params) ≡ Some fault → first_fault (plan_faults instances bodies params) ≡ Some fault
-refused_first instances bodies params fault is = first_front (check_faults instances params) (large bodies) fault is
-
-pub refused_large : (instances : List CatalogInstance) (bodies : List (List ℕ)) (params : Params) → first_fault (check_faults instances params) ≡ None
-    → nat_lt most_bytes (total_of bodies) ≡ true → first_fault (plan_faults instances bodies params) ≡ Some (TooLarge (total_of bodies))
-refused_large instances bodies params none more = first_back (check_faults instances params) (large bodies) none ∙ rw more refl
 
 pub not_refused : (instances : List CatalogInstance) (bodies : List (List ℕ)) (params : Params) → first_fault (check_faults instances params) ≡ None
     → nat_lt most_bytes (total_of bodies) ≡ false → first_fault (plan_faults instances bodies params) ≡ None

@@ -13,8 +13,7 @@ use Rattle.carousel_cid.specs.declared.kind.Kind.TheVariants as kinds
 use Rattle.carousel_cid.specs.Repeats.{are_different}
 use Rattle.carousel_cid.specs.File.{file_bytes}
 use Rattle.carousel_cid.specs.Descriptor.{descriptor_bytes}
-use Rattle.carousel_cid.proofs.ReadKinds.{file_read, descriptor_read}
-use Rattle.carousel_cid.proofs.WrittenKinds.{reads_written_file, reads_written_descriptor}
+use Rattle.carousel_cid.proofs.Public.{file_read, descriptor_read, reads_written_file, reads_written_descriptor}
 use Rattle.sender_plan.specs.declared.params.Params.{Params}
 use Rattle.sender_plan.specs.CatalogInstance.{CatalogItem, CatalogInstance}
 use Rattle.sender_plan.specs.Check.{is_within, not_rising}

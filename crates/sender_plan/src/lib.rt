@@ -20,6 +20,3 @@ pub use params::{Params, check};
 pub use planning::{MOST_BYTES, plan};
 pub use reading::read_catalog;
 pub use session::{SentInstance, SentObject, Session};
-
-#[cfg(test)]
-mod tests;

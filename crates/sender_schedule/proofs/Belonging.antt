@@ -10,37 +10,37 @@ use Rattle.rs_code.specs.SourceRows.{IsSymbolRow}
 use Rattle.alc_packet.specs.Packet.{full}
 use Rattle.alc_packet.proofs.Public.{written_spells}
 use Rattle.sender_plan.specs.Session.{Session, SentObject, HasObject, IsSession, objects_of, object_of}
-use Rattle.sender_schedule.specs.Places.{IsPlace, places}
+use Rattle.sender_schedule.specs.SymbolIds.{IsSymbolId, symbol_ids}
 use Rattle.sender_schedule.specs.SymbolRow.{symbol_row}
 use Rattle.sender_schedule.specs.Datagram.{sent_of, packet, datagram}
 use Rattle.sender_schedule.specs.Schedule.{all_cycles, datagrams_of, object_datagrams, schedule}
 use Rattle.sender_schedule.specs.Belonging.{Belongs}
 use Rattle.sender_schedule.specs.Inner.Sending.{CanBeSent}
-use Rattle.sender_schedule.specs.declared.place.Place.{Place}
+use Rattle.sender_schedule.specs.declared.symbol_id.SymbolId.{SymbolId}
 use Rattle.sender_schedule.proofs.Objects.{All-flat_map, all_known, can_be_sent, schedule_by_objects}
 use Rattle.sender_schedule.proofs.Rows.{length-block_rows, few_rows, block_rows_bytes}
 use Rattle.sender_schedule.proofs.SymbolRows.{length-symbol_row, symbol_row_of_bytes}
 use Rattle.sender_schedule.proofs.Packets.{packet_is}
 use Rattle.sender_schedule.proofs.Once.{only}
 
--- its symbol is that of the place
-symbol_is : (tsi : ℕ) (o : SentObject) (p : Place) → CanBeSent o → IsPlace o.oti p
-    → IsSymbolRow (block_rows (sent_of o) p.block) o.oti.symbol p.symbol (full (packet tsi o p))
+-- its bytes are those of the symbol
+symbol_is : (tsi : ℕ) (o : SentObject) (p : SymbolId) → CanBeSent o → IsSymbolId o.oti p
+    → IsSymbolRow (block_rows (sent_of o) p.sbn) o.oti.symbol p.esi (full (packet tsi o p))
 unfolding full
 symbol_is tsi o p can is =
     let x : Sent = sent_of o in
-    let row = symbol_row (block_rows x p.block) o.oti.symbol p.symbol in
-    let few = few_rows x p.block can.sent is.block in
-    subst (IsSymbolRow (block_rows x p.block) o.oti.symbol p.symbol)
-    (sym (filled_whole o.oti.symbol row (omega (arith, length-symbol_row (block_rows x p.block) o.oti.symbol p.symbol))))
-    (symbol_row_of_bytes (block_rows x p.block) o.oti.symbol p.symbol (λ at less. block_rows_bytes x p.block at can.sent less)
-    (λ at. omega (arith, few, length-block_rows x p.block at)))
+    let row = symbol_row (block_rows x p.sbn) o.oti.symbol p.esi in
+    let few = few_rows x p.sbn can.sent is.sbn in
+    subst (IsSymbolRow (block_rows x p.sbn) o.oti.symbol p.esi)
+    (sym (filled_whole o.oti.symbol row (omega (arith, length-symbol_row (block_rows x p.sbn) o.oti.symbol p.esi))))
+    (symbol_row_of_bytes (block_rows x p.sbn) o.oti.symbol p.esi (λ at less. block_rows_bytes x p.sbn at can.sent less)
+    (λ at. omega (arith, few, length-block_rows x p.sbn at)))
 
--- the datagram of a place belongs to the session
-place_belongs : (s : Session) (toi : ℕ) (o : SentObject) (p : Place) → IsSession s → HasObject s toi → object_of s toi ≡ Some o → IsPlace o.oti p
+-- the datagram of a symbol belongs to the session
+symbol_belongs : (s : Session) (toi : ℕ) (o : SentObject) (p : SymbolId) → IsSession s → HasObject s toi → object_of s toi ≡ Some o → IsSymbolId o.oti p
     → Belongs s (datagram s.tsi o p)
 unfolding datagram
-place_belongs s toi o p session has found is =
+symbol_belongs s toi o p session has found is =
     let can = can_be_sent s toi o session has found in
     let toi_is : o.toi ≡ toi = omega (arith, (session.objects (toi - 1) o found).toi, has.some) in
     record {
@@ -52,8 +52,8 @@ place_belongs s toi o p session has found is =
         object = o;
         known = subst (λ t. object_of s t ≡ Some o) (sym toi_is) found;
         information = refl;
-        block = is.block;
-        place = is.symbol;
+        block = is.sbn;
+        place = is.esi;
         symbol = symbol_is s.tsi o p can is;
         close = refl;
       };
@@ -65,7 +65,7 @@ object_belongs s toi session has = elim (slice_get_cases s.objects (toi - 1)).1 
       let o : SentObject = some.0 in
       let found : object_of s toi ≡ Some o = some.2 in
       subst (λ x. All (Belongs s) (datagrams_of s.tsi x)) (sym found)
-      (All-map (Belongs s) (datagram s.tsi o) (places o.oti) (λ k d less. place_belongs s toi o (get_or (places o.oti) k d) session has found (only o.oti k d less)))
+      (All-map (Belongs s) (datagram s.tsi o) (symbol_ids o.oti) (λ k d less. symbol_belongs s toi o (get_or (symbol_ids o.oti) k d) session has found (only o.oti k d less)))
   | inr past ↦ absurd (omega (arith, past.0, has.some, has.within))
 ]
 

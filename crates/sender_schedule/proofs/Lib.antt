@@ -6,3 +6,4 @@ pub mod Fronts
 pub mod Packets
 pub mod Once
 pub mod Belonging
+pub mod Public

@@ -1,13 +1,13 @@
--- The order of places: a round after a round, and in each a block after a block.
+-- The order of symbols: a round after a round, and in each a block after a block.
 use Rattle.std.proofs.Common.{◌≡◌, ℕ, zero, suc, ◌+◌, ◌-◌, ◌<◌, ◌≤◌, false, List, [], ◌∷◌, ◌++◌, refl, ap, ap₂, ◌∙◌, arith}
 use Rattle.std.specs.Prelude.{nat_lt}
 use Rattle.std.specs.List.{range_with_len, flat_map}
 use Rattle.std.proofs.lemmas.Bool.{lt-ltb}
 use Rattle.oti_blocks.specs.Partition.{ObjectInformation, IsSound, blocks, encoding_at}
 use Rattle.oti_blocks.proofs.Public.{blocks_pos, size_bounds, encoding_at_bounds, encoding_falls}
-use Rattle.sender_schedule.specs.Places.{IsPlace, opening, from_to, symbol_of_each, having, round, places}
-use Rattle.sender_schedule.specs.Inner.Rest.{round_from, places_from}
-use Rattle.sender_schedule.specs.declared.place.Place.{Place}
+use Rattle.sender_schedule.specs.SymbolIds.{IsSymbolId, opening, from_to, symbol_of_each, having, round, symbol_ids}
+use Rattle.sender_schedule.specs.Inner.Rest.{round_from, symbol_ids_from}
+use Rattle.sender_schedule.specs.declared.symbol_id.SymbolId.{SymbolId}
 
 -- where there is a next number, it comes first
 pub from_to_more : (a b : ℕ) → a < b → from_to a b ≡ a ∷ from_to (a + 1) b
@@ -39,41 +39,41 @@ rounds_none o sound j zero none = refl
 rounds_none o sound j (suc m) none =
     ap₂ (λ xs ys. xs ++ ys) (round_none o sound j 0 (λ some. none)) (rounds_none o sound (j + 1) m (omega arith))
 
--- ---- the next place
+-- ---- the next symbol
 
--- a round is its first place and the rest
-pub round_more : (o : ObjectInformation) (p : Place) → IsPlace o p → round_from o p.symbol p.block ≡ p ∷ round_from o p.symbol (p.block + 1)
-round_more o p is = rw (from_to_more p.block (blocks o) is.block, lt-ltb p.symbol (encoding_at o p.block) is.symbol) refl
+-- a round is its first symbol and the rest
+pub round_more : (o : ObjectInformation) (p : SymbolId) → IsSymbolId o p → round_from o p.esi p.sbn ≡ p ∷ round_from o p.esi (p.sbn + 1)
+round_more o p is = rw (from_to_more p.sbn (blocks o) is.sbn, lt-ltb p.esi (encoding_at o p.sbn) is.esi) refl
 
 -- where the next block has no symbol of this number, the next round follows
-turns : (o : ObjectInformation) (p : Place) → IsSound o → IsPlace o p → (p.block + 1 < blocks o → encoding_at o (p.block + 1) ≤ p.symbol)
-    → places_from o p ≡ p ∷ flat_map (round o) (from_to (p.symbol + 1) o.max_n)
+turns : (o : ObjectInformation) (p : SymbolId) → IsSound o → IsSymbolId o p → (p.sbn + 1 < blocks o → encoding_at o (p.sbn + 1) ≤ p.esi)
+    → symbol_ids_from o p ≡ p ∷ flat_map (round o) (from_to (p.esi + 1) o.max_n)
 turns o p sound is none =
-    ap (λ (ps : List Place). ps ++ flat_map (round o) (from_to (p.symbol + 1) o.max_n))
-    (round_more o p is ∙ ap (λ (ps : List Place). p ∷ ps) (round_none o sound p.symbol (p.block + 1) none))
+    ap (λ (ps : List SymbolId). ps ++ flat_map (round o) (from_to (p.esi + 1) o.max_n))
+    (round_more o p is ∙ ap (λ (ps : List SymbolId). p ∷ ps) (round_none o sound p.esi (p.sbn + 1) none))
 
 -- and it starts in block 0
-pub next_round : (o : ObjectInformation) (p : Place) → IsSound o → IsPlace o p → (p.block + 1 < blocks o → encoding_at o (p.block + 1) ≤ p.symbol)
-    → p.symbol + 1 < encoding_at o 0 → places_from o p ≡ p ∷ places_from o (record { symbol = p.symbol + 1; block = 0 })
+pub next_round : (o : ObjectInformation) (p : SymbolId) → IsSound o → IsSymbolId o p → (p.sbn + 1 < blocks o → encoding_at o (p.sbn + 1) ≤ p.esi)
+    → p.esi + 1 < encoding_at o 0 → symbol_ids_from o p ≡ p ∷ symbol_ids_from o (record { esi = p.esi + 1; sbn = 0 })
 next_round o p sound is none more =
     let most = encoding_at_bounds o sound 0 (blocks_pos o sound) in
     turns o p sound is none
-    ∙ ap (λ js. p ∷ flat_map (round o) js) (from_to_more (p.symbol + 1) o.max_n (omega (arith, more, most.1)))
+    ∙ ap (λ js. p ∷ flat_map (round o) js) (from_to_more (p.esi + 1) o.max_n (omega (arith, more, most.1)))
 
 -- where block 0 has no next symbol, none follows
-pub no_round : (o : ObjectInformation) (p : Place) → IsSound o → IsPlace o p → (p.block + 1 < blocks o → encoding_at o (p.block + 1) ≤ p.symbol)
-    → encoding_at o 0 ≤ p.symbol + 1 → places_from o p ≡ p ∷ []
+pub no_round : (o : ObjectInformation) (p : SymbolId) → IsSound o → IsSymbolId o p → (p.sbn + 1 < blocks o → encoding_at o (p.sbn + 1) ≤ p.esi)
+    → encoding_at o 0 ≤ p.esi + 1 → symbol_ids_from o p ≡ p ∷ []
 no_round o p sound is none last =
-    turns o p sound is none ∙ ap (λ (ps : List Place). p ∷ ps) (rounds_none o sound (p.symbol + 1) (o.max_n - (p.symbol + 1)) last)
+    turns o p sound is none ∙ ap (λ (ps : List SymbolId). p ∷ ps) (rounds_none o sound (p.esi + 1) (o.max_n - (p.esi + 1)) last)
 
--- ---- the first place
+-- ---- the first symbol
 
-pub first_place : (o : ObjectInformation) → IsSound o → IsPlace o opening
-first_place o sound =
+pub first_symbol_id : (o : ObjectInformation) → IsSound o → IsSymbolId o opening
+first_symbol_id o sound =
     let some = blocks_pos o sound in
     let size = size_bounds o sound 0 some in
     let encoding = encoding_at_bounds o sound 0 some in
-    record { block = some; symbol = omega (arith, size.0, encoding.0) }
+    record { sbn = some; esi = omega (arith, size.0, encoding.0) }
 
-pub all_places : (o : ObjectInformation) → IsSound o → places o ≡ places_from o opening
-all_places o sound = ap (flat_map (round o)) (from_to_more 0 o.max_n (omega (arith, sound.some_block, sound.block_within)))
+pub all_symbol_ids : (o : ObjectInformation) → IsSound o → symbol_ids o ≡ symbol_ids_from o opening
+all_symbol_ids o sound = ap (flat_map (round o)) (from_to_more 0 o.max_n (omega (arith, sound.some_block, sound.block_within)))

@@ -14,11 +14,11 @@ use Rattle.alc_packet.specs.Datagram.{payload_of}
 use Rattle.alc_packet.specs.Writing.{header_of}
 use Rattle.alc_packet.proofs.Public.{header_suits}
 use Rattle.sender_plan.specs.Session.{SentObject}
-use Rattle.sender_schedule.specs.Places.{IsPlace}
+use Rattle.sender_schedule.specs.SymbolIds.{IsSymbolId}
 use Rattle.sender_schedule.specs.SymbolRow.{symbol_row}
 use Rattle.sender_schedule.specs.Datagram.{sent_of, packet, datagram}
 use Rattle.sender_schedule.specs.Inner.Sending.{CanBeSent}
-use Rattle.sender_schedule.specs.declared.place.Place.{Place}
+use Rattle.sender_schedule.specs.declared.symbol_id.SymbolId.{SymbolId}
 use Rattle.sender_schedule.proofs.Rows.{length-block_rows, few_rows, get_or-block_rows, block_rows_bytes}
 use Rattle.sender_schedule.proofs.SymbolRows.{symbol_of_source, length-symbol_row, get_or-symbol_row}
 
@@ -35,40 +35,40 @@ unfolding last_length
 past_end o at sound le = omega (arith, le, (last_length_bounds o sound).0)
 
 -- so it is zero there
-last_zero : (o : SentObject) (p : Place) (at : ℕ) → CanBeSent o → p.block + 1 ≡ blocks o.oti → p.symbol + 1 ≡ size_at o.oti p.block
-    → last_length o.oti ≤ at → at < o.oti.symbol → get_or (symbol_row (block_rows (sent_of o) p.block) o.oti.symbol p.symbol) at 0 ≡ 0
+last_zero : (o : SentObject) (p : SymbolId) (at : ℕ) → CanBeSent o → p.sbn + 1 ≡ blocks o.oti → p.esi + 1 ≡ size_at o.oti p.sbn
+    → last_length o.oti ≤ at → at < o.oti.symbol → get_or (symbol_row (block_rows (sent_of o) p.sbn) o.oti.symbol p.esi) at 0 ≡ 0
 last_zero o p at can block place past within =
     let x : Sent = sent_of o in
-    let len = length-block_rows (sent_of o) p.block at in
-    let few = few_rows x p.block can.sent (omega arith) in
-    let last = last_source o.oti p.block p.symbol can.sent.sound block place in
-    get_or-symbol_row (block_rows (sent_of o) p.block) o.oti.symbol p.symbol at within
-    ∙ symbol_of_source (column (block_rows (sent_of o) p.block) at) p.symbol (block_rows_bytes x p.block at can.sent within)
+    let len = length-block_rows (sent_of o) p.sbn at in
+    let few = few_rows x p.sbn can.sent (omega arith) in
+    let last = last_source o.oti p.sbn p.esi can.sent.sound block place in
+    get_or-symbol_row (block_rows (sent_of o) p.sbn) o.oti.symbol p.esi at within
+    ∙ symbol_of_source (column (block_rows (sent_of o) p.sbn) at) p.esi (block_rows_bytes x p.sbn at can.sent within)
     (omega (arith, len, few)) (omega (arith, len, place))
-    ∙ get_or-block_rows (sent_of o) p.block p.symbol at (omega arith) within
+    ∙ get_or-block_rows (sent_of o) p.sbn p.esi at (omega arith) within
     ∙ ap (λ n. get_or o.bytes (n * o.oti.symbol + at) 0) last
     ∙ get_or_past o.bytes ((sources o.oti - 1) * o.oti.symbol + at) 0 (omega (arith, can.sent.long, past_end o.oti at can.sent.sound past))
 
--- the packet of a place is one
-pub packet_is : (tsi : ℕ) (o : SentObject) (p : Place) → tsi < 2 ^ 32 → CanBeSent o → IsPlace o.oti p → IsPacket (packet tsi o p)
+-- the packet of a symbol is one
+pub packet_is : (tsi : ℕ) (o : SentObject) (p : SymbolId) → tsi < 2 ^ 32 → CanBeSent o → IsSymbolId o.oti p → IsPacket (packet tsi o p)
 packet_is tsi o p tsi_fits can is = record {
   tsi_fits = omega arith;
   toi_fits = can.toi;
   sound = can.sent.sound;
-  block = is.block;
-  place = is.symbol;
+  block = is.sbn;
+  place = is.esi;
   symbol = inl (record {
     whole = len;
     filled = λ last i d less.
-        let row = symbol_row (block_rows (sent_of o) p.block) o.oti.symbol p.symbol in
+        let row = symbol_row (block_rows (sent_of o) p.sbn) o.oti.symbol p.esi in
         let long = length-drop (last_length o.oti) row in
         get_or_default (drop (last_length o.oti) row) i d 0 less
         ∙ get_or-drop (last_length o.oti) row i 0
         ∙ last_zero o p (last_length o.oti + i) can last.block last.place (omega arith) (omega (arith, less, long, len));
   });
 } where
-  len : length (symbol_row (block_rows (sent_of o) p.block) o.oti.symbol p.symbol) ≡ o.oti.symbol
-  len = length-symbol_row (block_rows (sent_of o) p.block) o.oti.symbol p.symbol
+  len : length (symbol_row (block_rows (sent_of o) p.sbn) o.oti.symbol p.esi) ≡ o.oti.symbol
+  len = length-symbol_row (block_rows (sent_of o) p.sbn) o.oti.symbol p.esi
 
 -- ---- the length of a datagram
 
@@ -82,7 +82,7 @@ length_fti o = simp (length-append, length-bytes_high_first) (omega arith)
 length_payload : (p : SymbolPacket) → length (payload_of p) ≡ 4 + length p.symbol
 length_payload p = simp (length-append, length-bytes_high_first) (omega arith)
 
-pub datagram_short : (tsi : ℕ) (o : SentObject) (p : Place) → IsPacket (packet tsi o p) → o.oti.symbol ≤ 65475 → length (datagram tsi o p) ≤ 65535
+pub datagram_short : (tsi : ℕ) (o : SentObject) (p : SymbolId) → IsPacket (packet tsi o p) → o.oti.symbol ≤ 65475 → length (datagram tsi o p) ≤ 65535
 unfolding datagram
 datagram_short tsi o p is most =
     let q : SymbolPacket = packet tsi o p in
@@ -93,7 +93,7 @@ datagram_short tsi o p is most =
       length_spelling (header_of q) (fti o.oti),
       length_fti o.oti,
       length_payload q,
-      length-symbol_row (block_rows (sent_of o) p.block) o.oti.symbol p.symbol,
+      length-symbol_row (block_rows (sent_of o) p.sbn) o.oti.symbol p.esi,
       header.tsi_bits,
       header.toi_bits,
       most,

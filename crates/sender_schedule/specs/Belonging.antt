@@ -9,7 +9,7 @@ use Rattle.sender_plan.specs.Session.{Session, SentObject, HasObject, object_of}
 use Rattle.sender_schedule.specs.Datagram.{sent_of}
 
 -- The packet is one of the session: it is of one of its objects, with that object's transmission information, and its
--- symbol, filled with zeros, is the symbol of its place in that object.
+-- symbol, filled with zeros, is the symbol of its number and block in that object.
 pub record IsSentOf (s : Session) (p : SymbolPacket) : Type 0 where
   pub tsi : p.tsi ≡ s.tsi
   pub toi : HasObject s p.toi

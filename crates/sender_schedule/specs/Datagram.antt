@@ -1,28 +1,28 @@
--- The datagram of a place of an object.
+-- The datagram of a symbol of an object.
 use Rattle.std.specs.Prelude.{ℕ, false, List}
 use Rattle.oti_blocks.specs.Sent.{Sent, block_rows}
 use Rattle.alc_packet.specs.Packet.{SymbolPacket}
 use Rattle.alc_packet.specs.Writing.{written}
 use Rattle.sender_plan.specs.Session.{SentObject}
 use Rattle.sender_schedule.specs.SymbolRow.{symbol_row}
-use Rattle.sender_schedule.specs.declared.place.Place.{Place}
+use Rattle.sender_schedule.specs.declared.symbol_id.SymbolId.{SymbolId}
 
 -- the object by its transmission information and its bytes
 abbrev pub sent_of : SentObject → Sent
 sent_of o = record { oti = o.oti; bytes = o.bytes }
 
--- the packet of a place: the symbol of that place, and the flag A not set
-abbrev pub packet : ℕ → SentObject → Place → SymbolPacket
+-- the packet of a symbol: its row of bytes, and the flag A not set
+abbrev pub packet : ℕ → SentObject → SymbolId → SymbolPacket
 packet tsi o p = record {
   tsi = tsi;
   toi = o.toi;
   oti = o.oti;
-  sbn = p.block;
-  esi = p.symbol;
-  symbol = symbol_row (block_rows (sent_of o) p.block) o.oti.symbol p.symbol;
+  sbn = p.sbn;
+  esi = p.esi;
+  symbol = symbol_row (block_rows (sent_of o) p.sbn) o.oti.symbol p.esi;
   close = false;
 }
 
 -- and that packet as it is written
-unfoldable pub datagram : ℕ → SentObject → Place → List ℕ
+unfoldable pub datagram : ℕ → SentObject → SymbolId → List ℕ
 datagram tsi o p = written (packet tsi o p)

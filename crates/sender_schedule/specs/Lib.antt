@@ -1,5 +1,5 @@
 pub mod Gives
-pub mod Places
+pub mod SymbolIds
 pub mod Times
 pub mod SymbolRow
 pub mod Datagram

@@ -2,17 +2,17 @@
 use Rattle.std.specs.Prelude.{ℕ, List, [], Option, Some, None, map, replicate}
 use Rattle.std.specs.List.{flat_map}
 use Rattle.sender_plan.specs.Session.{Session, SentObject, SentInstance, objects_of, object_of}
-use Rattle.sender_schedule.specs.Places.{places}
+use Rattle.sender_schedule.specs.SymbolIds.{symbol_ids}
 use Rattle.sender_schedule.specs.Datagram.{datagram}
 
 -- the instances in order, each as many times as it is sent
 abbrev pub all_cycles : ℕ → List SentInstance → List SentInstance
 all_cycles cycles instances = flat_map (replicate cycles) instances
 
--- the datagrams of an object: those of its places in order
+-- the datagrams of an object: those of its symbols in order
 abbrev pub datagrams_of : ℕ → Option SentObject → List (List ℕ)
 datagrams_of tsi None = []
-datagrams_of tsi (Some o) = map (datagram tsi o) (places o.oti)
+datagrams_of tsi (Some o) = map (datagram tsi o) (symbol_ids o.oti)
 
 abbrev pub object_datagrams : Session → ℕ → List (List ℕ)
 object_datagrams s toi = datagrams_of s.tsi (object_of s toi)

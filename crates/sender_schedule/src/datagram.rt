@@ -1,31 +1,31 @@
-//! The datagram of a place.
+//! The datagram of a symbol.
 
 ghost use Rattle.std.specs.Prelude.{◌≡◌, ◌≤◌, IfOk, OnOk, OnErr, replicate, vec_len};
 ghost use Rattle.oti_blocks.specs.Sent.{block_rows};
-ghost use Rattle.sender_schedule.specs.Places.{IsPlace};
+ghost use Rattle.sender_schedule.specs.SymbolIds.{IsSymbolId};
 ghost use Rattle.sender_schedule.specs.SymbolRow.{symbol_row};
 ghost use Rattle.sender_schedule.specs.Datagram.{sent_of, packet, datagram};
 ghost use Rattle.sender_schedule.specs.Inner.Sending.{CanBeSent};
 
-use crate::place::Place;
+use crate::symbol_id::SymbolId;
 use crate::symbol::symbol_into;
 use crate::weights::WeightRow;
 use alc_packet::{Packet, write};
 use sender_plan::SentObject;
 use std::alloc::{AllocError, Global};
 
-/// Leaves in `out` the datagram of a place of an object. It takes memory for the symbol and for the
+/// Leaves in `out` the datagram of a symbol of an object. It takes memory for the symbol and for the
 /// datagram, and fails only for want of it; then `out` is as it was.
 pub(crate) fn datagram_into(
     tsi: u32,
     object: &SentObject,
-    place: Place,
+    id: SymbolId,
     weights: &mut WeightRow,
     out: &mut Vec<u8>,
 ) -> Result<(), AllocError>
     requires object { CanBeSent object.now }
-    requires place { IsPlace object.now.oti place }
-    ensures ok { OnOk result (out.new.items ≡ datagram tsi object.now place) }
+    requires id { IsSymbolId object.now.oti id }
+    ensures ok { OnOk result (out.new.items ≡ datagram tsi object.now id) }
     ensures short { OnOk result (vec_len out.new ≤ 65535) }
     ensures err { OnErr result (out.new.items ≡ out.old.items) }
 {
@@ -34,27 +34,27 @@ pub(crate) fn datagram_into(
     symbol_into(
         &object.oti,
         object.bytes.as_slice(),
-        place,
+        id,
         weights,
         &mut symbol,
     );
-    *out = write(alloc, &packet(tsi, object, place, symbol.as_slice()))?;
+    *out = write(alloc, &packet(tsi, object, id, symbol.as_slice()))?;
     Ok(())
 }
 
-/// The packet of a place with its symbol.
-fn packet<'a>(tsi: u32, object: &SentObject, place: Place, symbol: &'a [u8]) -> Packet<'a>
+/// The packet of a symbol with its bytes.
+fn packet<'a>(tsi: u32, object: &SentObject, id: SymbolId, symbol: &'a [u8]) -> Packet<'a>
     requires object { CanBeSent object.now }
-    requires place { IsPlace object.now.oti place }
-    requires symbol { symbol.now ≡ symbol_row (block_rows (sent_of object.now) place.block) object.now.oti.symbol place.symbol }
-    ensures { result ≡ packet tsi object.now place }
+    requires id { IsSymbolId object.now.oti id }
+    requires symbol { symbol.now ≡ symbol_row (block_rows (sent_of object.now) id.sbn) object.now.oti.symbol id.esi }
+    ensures { result ≡ packet tsi object.now id }
 {
     Packet {
         tsi: u64::from(tsi),
         toi: object.toi,
         oti: object.oti,
-        sbn: place.block,
-        esi: place.symbol,
+        sbn: id.sbn,
+        esi: id.esi,
         symbol,
         close: false,
     }

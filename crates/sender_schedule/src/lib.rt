@@ -6,14 +6,11 @@ mod cycles;
 mod datagram;
 mod items;
 pub mod laws;
-mod place;
+mod symbol_id;
 mod schedule;
 mod source;
 mod symbol;
 mod weights;
 
-pub use place::Place;
+pub use symbol_id::SymbolId;
 pub use schedule::Schedule;
-
-#[cfg(test)]
-mod tests;

@@ -4,13 +4,13 @@ ghost use Rattle.std.specs.Prelude.{◌≡◌, ◌≤◌, [], All, Some, None, i
 ghost use Rattle.std.specs.List.{flat_map};
 ghost use Rattle.sender_plan.specs.Session.{HasObject};
 ghost use Rattle.sender_schedule.specs.Gives.{Gives};
-ghost use Rattle.sender_schedule.specs.Places.{opening};
+ghost use Rattle.sender_schedule.specs.SymbolIds.{opening};
 ghost use Rattle.sender_schedule.specs.Schedule.{schedule, object_datagrams};
 ghost use Rattle.sender_schedule.specs.Inner.Rest.{left_of, IsDue};
 
 use crate::datagram::datagram_into;
 use crate::items::Items;
-use crate::place::{FIRST, Place, after, first};
+use crate::symbol_id::{FIRST, SymbolId, after, first};
 use crate::weights::WeightRow;
 use sender_plan::{SentObject, Session};
 use std::alloc::AllocError;
@@ -22,7 +22,7 @@ pub struct Schedule<'a> {
     session: &'a Session,
     items: Items<'a>,
     object: Option<&'a SentObject>,
-    place: Place,
+    id: SymbolId,
     weights: WeightRow,
 }
 
@@ -35,9 +35,9 @@ impl<'a> Model for Schedule<'a> {
 
     ghost Value = { List (List ℕ) };
 
-    ghost view = { λ a. left_of a.session.now.tsi (option_map (λ o. o.now) a.object) a.place ++ flat_map (object_datagrams a.session.now) a.items };
+    ghost view = { λ a. left_of a.session.now.tsi (option_map (λ o. o.now) a.object) a.id ++ flat_map (object_datagrams a.session.now) a.items };
 
-    ghost invariant = { λ a. All (HasObject a.session.now) a.items × IsDue a.items (option_map (λ o. o.now) a.object) a.place };
+    ghost invariant = { λ a. All (HasObject a.session.now) a.items × IsDue a.items (option_map (λ o. o.now) a.object) a.id };
 }
 
 impl<'a> Schedule<'a> {
@@ -52,7 +52,7 @@ impl<'a> Schedule<'a> {
             session,
             items,
             object,
-            place: FIRST,
+            id: FIRST,
             weights: WeightRow::new(),
         }
     }
@@ -72,12 +72,12 @@ impl<'a> Schedule<'a> {
             return Ok(false);
         };
         let session = self.session;
-        datagram_into(session.tsi(), object, self.place, &mut self.weights, out)?;
-        match after(&object.oti, self.place) {
-            Some(place) => self.place = place,
+        datagram_into(session.tsi(), object, self.id, &mut self.weights, out)?;
+        match after(&object.oti, self.id) {
+            Some(id) => self.id = id,
             None => {
                 self.object = open(session, &mut self.items);
-                self.place = FIRST;
+                self.id = FIRST;
             }
         }
         Ok(true)

@@ -6,36 +6,36 @@ ghost use Rattle.gf256.specs.Field.{product};
 ghost use Rattle.rs_code.specs.Weights.{AreWeights};
 ghost use Rattle.oti_blocks.specs.Partition.{size_at};
 ghost use Rattle.oti_blocks.specs.Sent.{IsSent, block_rows};
-ghost use Rattle.sender_schedule.specs.Places.{IsPlace};
+ghost use Rattle.sender_schedule.specs.SymbolIds.{IsSymbolId};
 ghost use Rattle.sender_schedule.specs.SymbolRow.{symbol_row};
 
-use crate::place::Place;
+use crate::symbol_id::SymbolId;
 use crate::source::source_symbol;
 use crate::weights::WeightRow;
 use gf256::{Gf, row_add};
 use oti_blocks::Oti;
 
-/// Leaves in `out` the symbol of a place of an object of these bytes. `out` has the length of a symbol and is zero. A
+/// Leaves in `out` a symbol of an object of these bytes. `out` has the length of a symbol and is zero. A
 /// source symbol is copied; a repair symbol is the sum of the block's rows, each with its weight.
 pub(crate) fn symbol_into(
     oti: &Oti,
     bytes: &[u8],
-    place: Place,
+    id: SymbolId,
     weights: &mut WeightRow,
     out: &mut [u8],
 )
     requires object { IsSent (record { oti = oti.now; bytes = bytes.now }) }
-    requires place { IsPlace oti.now place }
+    requires id { IsSymbolId oti.now id }
     requires zero { out.old ≡ replicate oti.now.symbol 0 }
-    ensures { out.new ≡ symbol_row (block_rows (record { oti = oti.now; bytes = bytes.now }) place.block) oti.now.symbol place.symbol }
+    ensures { out.new ≡ symbol_row (block_rows (record { oti = oti.now; bytes = bytes.now }) id.sbn) oti.now.symbol id.esi }
 {
-    let k = oti.block_k(place.block);
-    if place.symbol < k {
-        let number = oti.block_start(place.block) + u64::from(place.symbol);
+    let k = oti.block_k(id.sbn);
+    if id.esi < k {
+        let number = oti.block_start(id.sbn) + u64::from(id.esi);
         copy_front(source_symbol(oti, bytes, number), out);
     } else {
-        weights.make(k, place.symbol);
-        weigh_rows(oti, bytes, place, weights.weights.as_slice(), out);
+        weights.make(k, id.esi);
+        weigh_rows(oti, bytes, id, weights.weights.as_slice(), out);
     }
 }
 
@@ -49,16 +49,16 @@ fn copy_front(row: &[u8], out: &mut [u8])
     out[..row.len()].copy_from_slice(row);
 }
 
-/// Leaves in `out` the sum of the rows of a place's block, each with its weight in the symbol of the place.
-fn weigh_rows(oti: &Oti, bytes: &[u8], place: Place, weights: &[u8], out: &mut [u8])
+/// Leaves in `out` the sum of the rows of a symbol's block, each with its weight in the symbol.
+fn weigh_rows(oti: &Oti, bytes: &[u8], id: SymbolId, weights: &[u8], out: &mut [u8])
     requires object { IsSent (record { oti = oti.now; bytes = bytes.now }) }
-    requires place { IsPlace oti.now place }
-    requires weights { AreWeights (range_with_len 0 (size_at oti.now place.block)) place.symbol weights.now }
+    requires id { IsSymbolId oti.now id }
+    requires weights { AreWeights (range_with_len 0 (size_at oti.now id.sbn)) id.esi weights.now }
     requires zero { out.old ≡ replicate oti.now.symbol 0 }
-    ensures { out.new ≡ symbol_row (block_rows (record { oti = oti.now; bytes = bytes.now }) place.block) oti.now.symbol place.symbol }
+    ensures { out.new ≡ symbol_row (block_rows (record { oti = oti.now; bytes = bytes.now }) id.sbn) oti.now.symbol id.esi }
 {
-    let start = oti.block_start(place.block);
-    for i in 0..oti.block_k(place.block) {
+    let start = oti.block_start(id.sbn);
+    for i in 0..oti.block_k(id.sbn) {
         let row = source_symbol(oti, bytes, start + u64::from(i));
         add_front(row, weights[usize::from(i)], out);
     }

@@ -7,14 +7,14 @@ ghost use Rattle.rs_code.specs.Weights.{AreWeights};
 use arrayvec::ArrayVec;
 use rs_code::Places;
 
-/// The weights that were made last: those of the rows of a block of `k` source symbols in the encoding symbol
-/// `symbol`. There are none yet where `k` is 0.
+/// The weights that were made last: those of the rows of a block of `k` source symbols in its encoding symbol
+/// `esi`. There are none yet where `k` is 0.
 #[derive(Drop)]
 pub(crate) struct WeightRow {
     pub(crate) k: u8,
-    pub(crate) symbol: u8,
+    pub(crate) esi: u8,
     pub(crate) weights: ArrayVec<u8, 255>,
-    ghost are: { 1 ≤ k → AreWeights (range_with_len 0 k) symbol weights.items },
+    ghost are: { 1 ≤ k → AreWeights (range_with_len 0 k) esi weights.items },
 }
 
 impl WeightRow {
@@ -22,23 +22,23 @@ impl WeightRow {
     pub(crate) fn new() -> WeightRow {
         WeightRow {
             k: 0,
-            symbol: 0,
+            esi: 0,
             weights: ArrayVec::new(),
         }
     }
 
     /// Makes these weights, unless they are the ones that were made last.
-    pub(crate) fn make(&mut self, k: u8, symbol: u8)
+    pub(crate) fn make(&mut self, k: u8, esi: u8)
         requires some { 1 ≤ k }
-        requires symbol { symbol < 255 }
+        requires esi { esi < 255 }
         ensures k { self.new.k ≡ k }
-        ensures symbol { self.new.symbol ≡ symbol }
+        ensures esi { self.new.esi ≡ esi }
     {
-        if self.k == k && self.symbol == symbol {
+        if self.k == k && self.esi == esi {
             return;
         }
         let mut weights = ArrayVec::new();
-        Places::sources(k).weights(symbol, &mut weights);
-        *self = WeightRow { k, symbol, weights };
+        Places::sources(k).weights(esi, &mut weights);
+        *self = WeightRow { k, esi, weights };
     }
 }

@@ -6,8 +6,6 @@ ghost use Rattle.std.specs.Prelude.{◌≡◌};
 ghost use Rattle.wire_bytes.specs.Bytes.{are_zero};
 
 pub mod laws;
-#[cfg(test)]
-mod tests;
 
 /// Whether each byte is zero, as the filling of an object's last symbol or of a header's last word has to be.
 pub fn is_zero(bytes: &[u8]) -> bool

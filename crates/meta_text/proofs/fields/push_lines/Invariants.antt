@@ -1,8 +1,8 @@
 -- The lines so far are those of the pairs so far.
 use Rattle.std.proofs.Common.{◌≡◌, ◌++◌, map, take}
 use Rattle.meta_text.specs.Fields.{written}
-use Rattle.meta_text.specs.Inner.Places.{pair_at}
+use Rattle.meta_text.specs.Inner.Spans.{pair_at}
 use Rattle.meta_text.proofs.fields.push_lines.Given as goal
 
-abbrev pub invariant-loop-place : goal.invariant-loop-place
-invariant-loop-place l = l.out.items ≡ l.initial.out.items ++ written (map (pair_at l.text) (take l.place-index l.places))
+abbrev pub invariant-loop-span : goal.invariant-loop-span
+invariant-loop-span l = l.out.items ≡ l.initial.out.items ++ written (map (pair_at l.text) (take l.span-index l.spans))

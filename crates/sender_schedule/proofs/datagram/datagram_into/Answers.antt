@@ -12,6 +12,6 @@ returns-clause-ok c = c.in_ok-out.ensures.bytes ∙ ap written c.packet.ensures
 pub returns-clause-short : goal.returns-clause-short
 returns-clause-short c =
     let long = ap length (returns-clause-ok c) in
-    let is = packet_is c.args.tsi c.args.object.now c.args.place (omega (arith, c.ranges.tsi.fits)) c.requires.object c.requires.place in
-    let short = datagram_short c.args.tsi c.args.object.now c.args.place is c.requires.object.symbol in
+    let is = packet_is c.args.tsi c.args.object.now c.args.id (omega (arith, c.ranges.tsi.fits)) c.requires.object c.requires.id in
+    let short = datagram_short c.args.tsi c.args.object.now c.args.id is c.requires.object.symbol in
     omega (arith, long, short, c.in_ok-out.field-0.ok)

@@ -1,4 +1,4 @@
--- The packet of a place is one.
+-- The packet of a symbol is one.
 use Rattle.std.proofs.Common.{false, sym, subst, arith}
 use Rattle.alc_packet.specs.Packet.{IsPacket}
 use Rattle.sender_plan.specs.Session.{SentObject}
@@ -7,8 +7,8 @@ use Rattle.sender_schedule.proofs.datagram.packet.Goals as goal
 
 pub invariant_of-result : goal.invariant_of-result
 invariant_of-result c =
-    let p = c.args.place in
+    let p = c.args.id in
     let symbol = c.args.symbol.now in
-    subst (λ (o : SentObject). IsPacket (record { tsi = c.from.result; toi = o.toi; oti = o.oti; sbn = p.block; esi = p.symbol; symbol = symbol; close = false }))
+    subst (λ (o : SentObject). IsPacket (record { tsi = c.from.result; toi = o.toi; oti = o.oti; sbn = p.sbn; esi = p.esi; symbol = symbol; close = false }))
     (sym c.object.view_is)
-    (rw (c.from.ensures, c.requires.symbol) (packet_is c.args.tsi c.args.object.now p (omega (arith, c.ranges.tsi.fits)) c.requires.object c.requires.place))
+    (rw (c.from.ensures, c.requires.symbol) (packet_is c.args.tsi c.args.object.now p (omega (arith, c.ranges.tsi.fits)) c.requires.object c.requires.id))

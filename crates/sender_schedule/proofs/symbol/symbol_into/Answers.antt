@@ -14,8 +14,8 @@ use Rattle.sender_schedule.proofs.symbol.symbol_into.Goals as goal
 row_within : (c : goal.After-from) → c.block_start.result + c.from.result < sources c.args.oti.now
 row_within c =
     let o = c.args.oti.now in
-    let below : c.args.place.symbol < size_at o c.args.place.block = omega (arith, c.block_k-k.ensures.value) in
-    omega (arith, c.block_start.ensures, source_within o c.args.place.block c.args.place.symbol c.requires.object.sound c.requires.place.block below)
+    let below : c.args.id.esi < size_at o c.args.id.sbn = omega (arith, c.block_k-k.ensures.value) in
+    omega (arith, c.block_start.ensures, source_within o c.args.id.sbn c.args.id.esi c.requires.object.sound c.requires.id.sbn below)
 
 pub overflow_add-number : goal.overflow_add-number
 overflow_add-number c = omega (arith, row_within c, sources_fit c.args.oti.now c.requires.object.sound)
@@ -23,19 +23,19 @@ overflow_add-number c = omega (arith, row_within c, sources_fit c.args.oti.now c
 pub source_symbol-requires-clause-within : goal.source_symbol-requires-clause-within
 source_symbol-requires-clause-within c = row_within c
 
-pub make-requires-clause-symbol : goal.make-requires-clause-symbol
-make-requires-clause-symbol c =
+pub make-requires-clause-esi : goal.make-requires-clause-esi
+make-requires-clause-esi c =
     let o = c.args.oti.now in
-    let most = (encoding_at_bounds o c.requires.object.sound c.args.place.block c.requires.place.block).1 in
-    omega (arith, most, c.requires.place.symbol, c.requires.object.sound.max_n_fits)
+    let most = (encoding_at_bounds o c.requires.object.sound c.args.id.sbn c.requires.id.sbn).1 in
+    omega (arith, most, c.requires.id.esi, c.requires.object.sound.max_n_fits)
 
-pub returns-then-place-k : goal.returns-then-place-k
-returns-then-place-k c =
+pub returns-then-id-k : goal.returns-then-id-k
+returns-then-id-k c =
     let x : Sent = record { oti = c.args.oti.now; bytes = c.args.bytes.now } in
-    let b = c.args.place.block in
-    let i = c.args.place.symbol in
+    let b = c.args.id.sbn in
+    let i = c.args.id.esi in
     let full : length c.args.out.now ≡ x.oti.symbol = ap length c.requires.zero ∙ length-replicate x.oti.symbol 0 in
-    let few = few_rows x b c.requires.object c.requires.place.block in
+    let few = few_rows x b c.requires.object c.requires.id.sbn in
     let number : c.block_start.result + c.from.result ≡ start_at x.oti b + i = omega (arith, c.block_start.ensures) in
     let below : i < size_at x.oti b = omega (arith, c.block_k-k.ensures.value) in
     row_by_symbols (block_rows x b) x.oti.symbol i c.copy_front.new.out (c.copy_front.ensures.len ∙ full)

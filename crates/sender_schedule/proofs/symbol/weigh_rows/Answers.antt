@@ -23,8 +23,8 @@ loop-i-init c = record {
 row_within : (c : goal.After-from) → c.block_start-start.result + c.from.result < sources c.args.oti.now
 row_within c =
     let o = c.args.oti.now in
-    let below : c.loop-i.i < size_at o c.args.place.block = omega (arith, c.block_k-i-end.ensures.value) in
-    omega (arith, c.block_start-start.ensures, source_within o c.args.place.block c.loop-i.i c.requires.object.sound c.requires.place.block below)
+    let below : c.loop-i.i < size_at o c.args.id.sbn = omega (arith, c.block_k-i-end.ensures.value) in
+    omega (arith, c.block_start-start.ensures, source_within o c.args.id.sbn c.loop-i.i c.requires.object.sound c.requires.id.sbn below)
 
 pub overflow_add-start : goal.overflow_add-start
 overflow_add-start c = omega (arith, row_within c, sources_fit c.args.oti.now c.requires.object.sound)
@@ -34,12 +34,12 @@ source_symbol-row-requires-clause-within c = row_within c
 
 pub bounds-weights-from : goal.bounds-weights-from
 bounds-weights-from c =
-    omega (arith, c.block_k-i-end.ensures.value, c.requires.weights.count, length-range_with_len 0 (size_at c.args.oti.now c.args.place.block))
+    omega (arith, c.block_k-i-end.ensures.value, c.requires.weights.count, length-range_with_len 0 (size_at c.args.oti.now c.args.id.sbn))
 
 pub loop-i-preserved : goal.loop-i-preserved
 loop-i-preserved c =
     let x : Sent = record { oti = c.args.oti.now; bytes = c.args.bytes.now } in
-    let b = c.args.place.block in
+    let b = c.args.id.sbn in
     record {
       full = c.add_front.ensures.len ∙ c.loop-i.invariant.full;
       sums = λ at less.
@@ -57,12 +57,12 @@ loop-i-preserved c =
 pub returns : goal.returns
 returns c =
     let x : Sent = record { oti = c.args.oti.now; bytes = c.args.bytes.now } in
-    let b = c.args.place.block in
-    let few = few_rows x b c.requires.object c.requires.place.block in
+    let b = c.args.id.sbn in
+    let few = few_rows x b c.requires.object c.requires.id.sbn in
     let all : c.loop-i.i ≡ size_at x.oti b = omega (arith, c.block_k-i-end.ensures.value) in
-    row_by_symbols (block_rows x b) x.oti.symbol c.args.place.symbol c.loop-i.out c.loop-i.invariant.full
+    row_by_symbols (block_rows x b) x.oti.symbol c.args.id.esi c.loop-i.out c.loop-i.invariant.full
     (λ at less.
     c.loop-i.invariant.sums at less
     ∙ ap (weighed_bytes c.args.weights.now (column (block_rows x b) at)) all
-    ∙ symbol_of_weights (column (block_rows x b) at) c.args.weights.now (size_at x.oti b) c.args.place.symbol
+    ∙ symbol_of_weights (column (block_rows x b) at) c.args.weights.now (size_at x.oti b) c.args.id.esi
     (block_rows_bytes x b at c.requires.object less) few (length-block_rows x b at) c.requires.weights)

@@ -6,7 +6,7 @@ use Rattle.rs_code.specs.Weights.{weighed_bytes}
 use Rattle.sender_schedule.proofs.symbol.weigh_rows.Given as goal
 
 abbrev pub invariant-loop-i : goal.invariant-loop-i
-invariant-loop-i l = let rows = block_rows (record { oti = l.oti; bytes = l.bytes }) l.fn.place.block in record {
+invariant-loop-i l = let rows = block_rows (record { oti = l.oti; bytes = l.bytes }) l.fn.id.sbn in record {
   full : length l.out ≡ l.oti.symbol;
   sums : (at : ℕ) → at < l.oti.symbol → get_or l.out at 0 ≡ weighed_bytes l.weights (column rows at) l.i;
 }
