@@ -11,8 +11,8 @@ ghost use Rattle.meta_text.specs.Inner.Spans.{name_at, value_at, pair_at, pairs_
 
 use crate::fault::FieldFault;
 use crate::field::Field;
-use crate::span::Span;
 use crate::reading;
+use crate::span::Span;
 use std::alloc::{AllocError, Global};
 use std::marker::Model;
 use std::str;

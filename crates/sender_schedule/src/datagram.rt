@@ -7,8 +7,8 @@ ghost use Rattle.sender_schedule.specs.SymbolRow.{symbol_row};
 ghost use Rattle.sender_schedule.specs.Datagram.{sent_of, packet, datagram};
 ghost use Rattle.sender_schedule.specs.Inner.Sending.{CanBeSent};
 
-use crate::symbol_id::SymbolId;
 use crate::symbol::symbol_into;
+use crate::symbol_id::SymbolId;
 use crate::weights::WeightRow;
 use alc_packet::{Packet, write};
 use sender_plan::SentObject;

@@ -6,11 +6,11 @@ mod cycles;
 mod datagram;
 mod items;
 pub mod laws;
-mod symbol_id;
 mod schedule;
 mod source;
 mod symbol;
+mod symbol_id;
 mod weights;
 
-pub use symbol_id::SymbolId;
 pub use schedule::Schedule;
+pub use symbol_id::SymbolId;

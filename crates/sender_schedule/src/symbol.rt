@@ -9,8 +9,8 @@ ghost use Rattle.oti_blocks.specs.Sent.{IsSent, block_rows};
 ghost use Rattle.sender_schedule.specs.SymbolIds.{IsSymbolId};
 ghost use Rattle.sender_schedule.specs.SymbolRow.{symbol_row};
 
-use crate::symbol_id::SymbolId;
 use crate::source::source_symbol;
+use crate::symbol_id::SymbolId;
 use crate::weights::WeightRow;
 use gf256::{Gf, row_add};
 use oti_blocks::Oti;

@@ -9,8 +9,6 @@ mod naming;
 mod publisher;
 mod rule;
 mod snapshot;
-#[cfg(test)]
-mod tests;
 mod told;
 
 pub use hub::{Hub, make};

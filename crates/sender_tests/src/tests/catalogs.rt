@@ -1,118 +1,139 @@
-use super::*;
+//! Catalogs: what they list, and the first bad line.
 
-/// What a text lists.
-fn listed(rt: &HostRuntime, text: &[u8]) -> Result<String, Fail> {
-    let catalog = read_catalog(rt.alloc(), text)?;
-    shown(rt.alloc(), &catalog)
+use super::same::same;
+use sender_plan::{CatalogFault, CatalogInstance, CatalogItem, read_catalog};
+use std::alloc::{AllocError, Global};
+use std::process::Abort;
+use std::test::Fail;
+
+/// The name of a file, its location and its type.
+type Item<'a> = (&'a str, &'a str, Option<&'a str>);
+
+/// The number of an instance and its files.
+type Instance<'a> = (u32, &'a [Item<'a>]);
+
+fn parts(item: &CatalogItem) -> Item<'_> {
+    let kind = match &item.kind {
+        Some(kind) => Some(kind.as_str()),
+        None => None,
+    };
+    (item.name.as_str(), item.location.as_str(), kind)
 }
 
-/// The line and the cause of the first bad line of a text.
-fn refused(rt: &HostRuntime, text: &[u8]) -> Option<(u64, u8)> {
-    match read_catalog(rt.alloc(), text) {
-        Err(CatalogFault::Line { line, cause }) => Some((line, cause)),
-        _ => None,
+/// Asserts the number of an instance and its files.
+fn check_instance(rt: &impl Abort, instance: &CatalogInstance, wanted: &Instance<'_>, row: u32) {
+    same(rt, &instance.number, &wanted.0, row);
+    same(rt, &instance.items.len(), &wanted.1.len(), row);
+    for (item, expected) in instance.items.iter().zip(wanted.1) {
+        same(rt, &parts(item), expected, row);
     }
+}
+
+/// Asserts what a text lists.
+fn check_listed(
+    rt: &impl Abort,
+    alloc: Global,
+    text: &[u8],
+    wanted: &[Instance<'_>],
+    row: u32,
+) -> Result<(), Fail> {
+    let catalog = read_catalog(alloc, text)?;
+    same(rt, &catalog.as_slice().len(), &wanted.len(), row);
+    for (instance, expected) in catalog.as_slice().iter().zip(wanted) {
+        check_instance(rt, instance, expected, row);
+    }
+    Ok(())
 }
 
 #[test]
 fn instances_and_files(rt: HostRuntime) -> Result<(), Fail> {
-    let cases: [(&[u8], &str); 4] = [
-        (b"", ""),
-        (b"instance\t1\n", "[1]"),
-        (b"instance\t1\nfile\tf\ta\n", "[1]f>a;"),
+    let cases: [(u32, &[u8], &[Instance<'_>]); 8] = [
+        (1, b"", &[]),
+        (2, b"instance\t1\n", &[(1, &[])]),
+        (3, b"instance\t1\nfile\tf\ta\n", &[(1, &[("f", "a", None)])]),
         (
+            4,
             b"instance\t1\nfile\tf\ta\ttext/html\ninstance\t7\nfile\tg h\tb\nfile\tf\ta\n",
-            "[1]f>a:text/html;[7]g h>b;f>a;",
+            &[
+                (1, &[("f", "a", Some("text/html"))]),
+                (7, &[("g h", "b", None), ("f", "a", None)]),
+            ],
         ),
+        // Lines and their ends.
+        (
+            5,
+            b"instance\t1\r\nfile\tf\ta\r\n",
+            &[(1, &[("f", "a", None)])],
+        ),
+        (6, b"instance\t1\nfile\tf\ta", &[(1, &[("f", "a", None)])]),
+        (7, b"\n\r\n# two\ninstance\t1\n#file\tf\ta\n", &[(1, &[])]),
+        (8, b"instance\t0004294967295\n", &[(4294967295, &[])]),
     ];
-    for (text, wanted) in cases {
-        assert_eq!(rt; listed(&rt, text)?.as_str(), wanted, "in {text:?}");
+    for (row, text, wanted) in cases {
+        check_listed(&rt, rt.alloc(), text, wanted, row)?;
     }
     Ok(())
 }
 
-#[test]
-fn lines_and_their_ends(rt: HostRuntime) -> Result<(), Fail> {
-    let cases: [(&[u8], &str); 4] = [
-        (b"instance\t1\r\nfile\tf\ta\r\n", "[1]f>a;"),
-        (b"instance\t1\nfile\tf\ta", "[1]f>a;"),
-        (b"\n\r\n# two\ninstance\t1\n#file\tf\ta\n", "[1]"),
-        (b"instance\t0004294967295\n", "[4294967295]"),
-    ];
-    for (text, wanted) in cases {
-        assert_eq!(rt; listed(&rt, text)?.as_str(), wanted, "in {text:?}");
-    }
-    Ok(())
+/// Asserts the first bad line of a text, with its cause.
+fn check_refused(rt: &impl Abort, alloc: Global, text: &[u8], wanted: (u64, u8), row: u32) {
+    let refused = match read_catalog(alloc, text) {
+        Err(CatalogFault::Line { line, cause }) => Some((line, cause)),
+        _ => None,
+    };
+    same(rt, &refused, &Some(wanted), row);
 }
 
+/// Each cause alone; then texts with spaces at their ends; then the lowest cause of the first bad line, which is counted
+/// with those that are passed over.
 #[test]
-fn each_cause_alone(rt: HostRuntime) {
-    let cases: [(&[u8], (u64, u8)); 10] = [
-        (b"instance\t\xFF\n", (1, 1)),
-        (b"instance\t1\x01\n", (1, 1)),
-        (b"instance\t1\nfile\tf\x7F\ta\n", (2, 1)),
-        (b"instances\t1\n", (1, 2)),
-        (b"instance\t1\t2\n", (1, 2)),
-        (b"instance\t1\nfile\tf\n", (2, 2)),
-        (b"instance\t1\nfile\tf\ta\tb\tc\n", (2, 2)),
-        (b"instance\t4294967296\n", (1, 3)),
-        (b"instance\t+1\n", (1, 3)),
-        (b"file\tf\ta\n", (1, 4)),
+fn bad_lines(rt: HostRuntime) {
+    let cases: [(u32, &[u8], (u64, u8)); 22] = [
+        (20, b"instance\t\xFF\n", (1, 1)),
+        (21, b"instance\t1\x01\n", (1, 1)),
+        (22, b"instance\t1\nfile\tf\x7F\ta\n", (2, 1)),
+        (23, b"instances\t1\n", (1, 2)),
+        (24, b"instance\t1\t2\n", (1, 2)),
+        (25, b"instance\t1\nfile\tf\n", (2, 2)),
+        (26, b"instance\t1\nfile\tf\ta\tb\tc\n", (2, 2)),
+        (27, b"instance\t4294967296\n", (1, 3)),
+        (28, b"instance\t+1\n", (1, 3)),
+        (29, b"file\tf\ta\n", (1, 4)),
+        (30, b"instance\t1\nfile\t\ta\n", (2, 5)),
+        (31, b"instance\t1\nfile\tf\t\n", (2, 5)),
+        (32, b"instance\t1\nfile\tf\ta\t\n", (2, 5)),
+        (33, b"instance\t1\nfile\t f\ta\n", (2, 5)),
+        (34, b"instance\t1\nfile\tf\ta \n", (2, 5)),
+        (35, b"instance\t1\nfile\tf\ta\t b\n", (2, 5)),
+        (36, b"files\t\xFF\n", (1, 1)),
+        (37, b"instance\tx\ty\n", (1, 2)),
+        (38, b"file\t\ta\n", (1, 4)),
+        (39, b"#\n\ninstance\tx\n", (3, 3)),
+        (40, b"instance\t1\nfile\t\ta\nx\n", (2, 5)),
+        (41, b"# \xFF\n\ninstance\t1 \n", (3, 3)),
     ];
-    for (text, wanted) in cases {
-        assert_eq!(rt; refused(&rt, text), Some(wanted), "in {text:?}");
-    }
-}
-
-#[test]
-fn texts_with_spaces_at_their_ends(rt: HostRuntime) {
-    let cases: [&[u8]; 6] = [
-        b"instance\t1\nfile\t\ta\n",
-        b"instance\t1\nfile\tf\t\n",
-        b"instance\t1\nfile\tf\ta\t\n",
-        b"instance\t1\nfile\t f\ta\n",
-        b"instance\t1\nfile\tf\ta \n",
-        b"instance\t1\nfile\tf\ta\t b\n",
-    ];
-    for text in cases {
-        assert_eq!(rt; refused(&rt, text), Some((2, 5)), "in {text:?}");
+    for (row, text, wanted) in cases {
+        check_refused(&rt, rt.alloc(), text, wanted, row);
     }
 }
 
-/// The lowest cause of the first bad line, which is counted with those that are passed over.
-#[test]
-fn lowest_cause_of_the_first_bad_line(rt: HostRuntime) {
-    let cases: [(&[u8], (u64, u8)); 6] = [
-        (b"files\t\xFF\n", (1, 1)),
-        (b"instance\tx\ty\n", (1, 2)),
-        (b"file\t\ta\n", (1, 4)),
-        (b"#\n\ninstance\tx\n", (3, 3)),
-        (b"instance\t1\nfile\t\ta\nx\n", (2, 5)),
-        (b"# \xFF\n\ninstance\t1 \n", (3, 3)),
-    ];
-    for (text, wanted) in cases {
-        assert_eq!(rt; refused(&rt, text), Some(wanted), "in {text:?}");
-    }
-}
-
-/// A text with so many `instance` lines, numbered from 1.
-fn numbered(alloc: Global, count: u32) -> Result<String, Fail> {
+/// A text with so many `instance` lines, numbered from 0.
+fn numbered(alloc: Global, count: u32) -> Result<String, AllocError> {
     let mut text = String::new(alloc);
     for number in 0..count {
-        text.push_str(format!(in alloc; "instance\t{number}\n")?.as_str())?;
+        text.push_str("instance\t")?;
+        text.push_str(number.to_string(alloc)?.as_str())?;
+        text.push_str("\n")?;
     }
     Ok(text)
 }
 
 #[test]
 fn one_instance_too_many(rt: HostRuntime) -> Result<(), Fail> {
-    let most = numbered(rt.alloc(), 256)?;
-    assert_eq!(rt;
-        read_catalog(rt.alloc(), most.as_bytes())?.as_slice().len(),
-        256
-    );
+    let most = read_catalog(rt.alloc(), numbered(rt.alloc(), 256)?.as_bytes())?;
+    same(&rt, &most.as_slice().len(), &256, 50);
     let more = numbered(rt.alloc(), 257)?;
-    assert_eq!(rt; refused(&rt, more.as_bytes()), Some((257, 6)));
+    check_refused(&rt, rt.alloc(), more.as_bytes(), (257, 6), 51);
     Ok(())
 }
 
@@ -121,10 +142,14 @@ fn names_of_files(rt: HostRuntime) -> Result<(), Fail> {
     let text =
         b"instance\t1\nfile\tg\ta\nfile\tf\tb\ninstance\t2\nfile\tf\tc\nfile\th\ta\nfile\tg\ta\n";
     let names = read_catalog(rt.alloc(), text)?.names()?;
-    let mut joined = String::new(rt.alloc());
-    for name in names.as_slice() {
-        joined.push_str(name.as_str())?;
+    same(&rt, &names.len(), &3, 60);
+    for (row, name, wanted) in [
+        (61, names.first(), "g"),
+        (62, names.get(1), "f"),
+        (63, names.get(2), "h"),
+    ] {
+        let name = name.ok_or("a name more")?;
+        same(&rt, &name.as_str(), &wanted, row);
     }
-    assert_eq!(rt; joined.as_str(), "gfh");
     Ok(())
 }

@@ -1,36 +1,59 @@
-use super::*;
-use crate::planning::refuse_total;
+//! What refuses a catalog.
 
-/// What refuses the catalog of a text.
-fn fault(rt: &HostRuntime, text: &[u8], params: &Params) -> Result<Option<PlanFault>, Fail> {
-    let catalog = read_catalog(rt.alloc(), text)?;
-    Ok(check(&catalog, params).err())
+use super::plans::PARAMS;
+use super::same::same;
+use sender_plan::{MOST_BYTES, Params, PlanFault, check, read_catalog};
+use std::alloc::{AllocError, Global};
+use std::process::Abort;
+use std::test::Fail;
+
+/// Asserts what refuses the catalog of a text.
+fn check_fault(
+    rt: &impl Abort,
+    alloc: Global,
+    text: &[u8],
+    params: &Params,
+    wanted: Option<PlanFault>,
+    row: u32,
+) -> Result<(), Fail> {
+    let catalog = read_catalog(alloc, text)?;
+    same(rt, &check(&catalog, params).err(), &wanted, row);
+    Ok(())
 }
 
+/// Numbers that don't rise, and a block that is larger than its encoding symbols.
 #[test]
-fn numbers_that_do_not_rise(rt: HostRuntime) -> Result<(), Fail> {
-    let cases: [(&[u8], Option<u64>); 5] = [
-        (b"", None),
-        (b"instance\t0\n", None),
-        (b"instance\t1\ninstance\t3\n", None),
-        (b"instance\t2\ninstance\t1\n", Some(2)),
+fn catalogs_that_are_refused(rt: HostRuntime) -> Result<(), Fail> {
+    let second = Some(PlanFault::NumberNotRising { at: 2 });
+    let third = Some(PlanFault::NumberNotRising { at: 3 });
+    let block = Some(PlanFault::Params);
+    let cases: [(u32, &[u8], u8, u8, Option<PlanFault>); 8] = [
+        (1, b"", 2, 3, None),
+        (2, b"instance\t0\n", 2, 3, None),
+        (3, b"instance\t1\ninstance\t3\n", 2, 3, None),
+        (4, b"instance\t2\ninstance\t1\n", 2, 3, second),
         (
+            5,
             b"instance\t1\ninstance\t2\ninstance\t2\ninstance\t1\n",
-            Some(3),
+            2,
+            3,
+            third,
         ),
+        (6, b"instance\t1\n", 4, 3, block),
+        (7, b"instance\t2\ninstance\t1\n", 4, 3, second),
+        (8, b"instance\t1\n", 4, 4, None),
     ];
-    for (text, place) in cases {
-        let wanted = match place {
-            Some(at) => Some(PlanFault::NumberNotRising { at }),
-            None => None,
-        };
-        assert_eq!(rt; fault(&rt, text, &PARAMS)?, wanted, "in {text:?}");
+    for (row, text, max_block, max_n, wanted) in cases {
+        let mut params = PARAMS;
+        params.max_block = max_block;
+        params.max_n = max_n;
+        check_fault(&rt, rt.alloc(), text, &params, wanted, row)?;
     }
     Ok(())
 }
 
 /// A text of two instances; the second has so many files.
-fn second_with(alloc: Global, files: u32) -> Result<String, Fail> {
+fn second_with(alloc: Global, files: u32) -> Result<String, AllocError> {
     let mut text = String::from_str(alloc, "instance\t1\ninstance\t2\n")?;
     for _file in 0..files {
         text.push_str("file\tf\ta\n")?;
@@ -40,44 +63,12 @@ fn second_with(alloc: Global, files: u32) -> Result<String, Fail> {
 
 #[test]
 fn one_file_too_many(rt: HostRuntime) -> Result<(), Fail> {
-    let most = second_with(rt.alloc(), 4096)?;
-    assert_eq!(rt; fault(&rt, most.as_bytes(), &PARAMS)?, None);
-    let more = second_with(rt.alloc(), 4097)?;
-    assert_eq!(rt;
-        fault(&rt, more.as_bytes(), &PARAMS)?,
-        Some(PlanFault::TooManyFiles { at: 2 })
-    );
+    let alloc = rt.alloc();
+    let most = second_with(alloc, 4096)?;
+    check_fault(&rt, alloc, most.as_bytes(), &PARAMS, None, 10)?;
+    let more = second_with(alloc, 4097)?;
+    let wanted = Some(PlanFault::TooManyFiles { at: 2 });
+    check_fault(&rt, alloc, more.as_bytes(), &PARAMS, wanted, 11)?;
+    same(&rt, &MOST_BYTES, &268_435_456, 12);
     Ok(())
-}
-
-#[test]
-fn block_larger_than_its_encoding_symbols(rt: HostRuntime) -> Result<(), Fail> {
-    let mut params = PARAMS;
-    params.max_block = 4;
-    assert_eq!(rt;
-        fault(&rt, b"instance\t1\n", &params)?,
-        Some(PlanFault::Params)
-    );
-    assert_eq!(rt;
-        fault(&rt, b"instance\t2\ninstance\t1\n", &params)?,
-        Some(PlanFault::NumberNotRising { at: 2 })
-    );
-    params.max_n = 4;
-    assert_eq!(rt; fault(&rt, b"instance\t1\n", &params)?, None);
-    Ok(())
-}
-
-#[test]
-fn bodies_that_have_too_many_bytes(rt: HostRuntime) {
-    let cases = [
-        (0, None),
-        (268_435_456, None),
-        (
-            268_435_457,
-            Some(PlanFault::TooLarge { total: 268_435_457 }),
-        ),
-    ];
-    for (total, wanted) in cases {
-        assert_eq!(rt; refuse_total(total).err(), wanted, "of {total} bytes");
-    }
 }

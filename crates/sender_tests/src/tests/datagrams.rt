@@ -1,15 +1,14 @@
 //! The datagrams of small sessions, read back.
 ghost use Rattle.std.specs.Prelude.{◌≤◌};
 
-use super::*;
+use super::same::same;
+use super::sessions::{instance, object, session};
 use alc_packet::{Datagram, read};
 use sender_plan::{SentInstance, Session};
-use sessions::{instance, object, session};
+use sender_schedule::Schedule;
 use std::alloc::Global;
 use std::process::Abort;
-use std::test::*;
-
-mod sessions;
+use std::test::Fail;
 
 /// A file under the location `a`, with the body `hi`.
 const HI_FILE_OBJECT: &[u8; 50] =
@@ -19,7 +18,7 @@ const HI_FILE_OBJECT: &[u8; 50] =
 const LIST_ONE_DESCRIPTOR: &[u8; 29] =
     b"\x03\x00\x69\xFA\x00\x00\x00\x19Fcast-CID-ID: 1\r\n\x00\x00\x001";
 
-/// The header of each datagram of the descriptor, up to its place.
+/// The header of each datagram of the descriptor, up to its SBN.
 const DESCRIPTOR_HEADER: &[u8; 28] =
     b"\x10\xA0\x07\x05\x00\x00\x00\x00\x00\x00\x00\x01\x00\x00\x00\x02\x40\x03\x00\x00\x00\x00\x00\x1D\x00\x19\x02\x03";
 
@@ -57,61 +56,79 @@ fn counting_session(
 }
 
 /// The object, the block and the number of the symbol that a datagram has.
-fn place_of(datagram: &[u8]) -> Option<(u128, u32, u8)> {
+fn symbol_of(datagram: &[u8]) -> Option<(u128, u32, u8)> {
     match read(datagram) {
         Ok(Datagram::Symbol(packet)) => Some((packet.toi, packet.sbn, packet.esi)),
         _ => None,
     }
 }
 
-/// Asserts the next datagram by its place.
-fn assert_next(
+/// Asserts the next datagram by its symbol, how long it is, and what follows its SBN and ESI.
+fn check_next(
     rt: &impl Abort,
     schedule: &mut Schedule<'_>,
     datagram: &mut Vec<u8>,
-    toi: u128,
-    block: u32,
-    symbol: u8,
+    symbol: (u128, u32, u8),
+    length: usize,
+    start: &[u8],
+    row: u32,
 ) -> Result<(), Fail> {
-    assert!(rt; schedule.next(datagram)?, "one more");
-    assert_eq!(rt; place_of(datagram.as_slice()), Some((toi, block, symbol)));
+    same(rt, &schedule.next(datagram)?, &true, row);
+    same(rt, &symbol_of(datagram.as_slice()), &Some(symbol), row);
+    same(rt, &datagram.len(), &length, row);
+    let rest = datagram.get(32..).ok_or("a symbol")?;
+    same(rt, &rest.starts_with(start), &true, row);
     Ok(())
 }
 
 /// Asserts that nothing is left.
-fn assert_end(
+fn check_end(
     rt: &impl Abort,
     schedule: &mut Schedule<'_>,
     datagram: &mut Vec<u8>,
+    row: u32,
 ) -> Result<(), Fail> {
-    assert!(rt; !schedule.next(datagram)?, "no more");
-    assert!(rt; datagram.is_empty());
+    same(rt, &schedule.next(datagram)?, &false, row);
+    same(rt, &datagram.is_empty(), &true, row);
     Ok(())
 }
 
-/// Asserts the three datagrams of an object of one block, by their numbers and what their symbols start with.
-fn assert_three(
+/// Asserts the three datagrams of an object of one block, by what their symbols start with.
+fn check_three(
     rt: &impl Abort,
     schedule: &mut Schedule<'_>,
     datagram: &mut Vec<u8>,
     toi: u128,
-    starts: [&[u8]; 3],
+    starts: &[&[u8]; 3],
+    row: u32,
 ) -> Result<(), Fail> {
-    for i in 0..3usize {
-        assert_next(rt, schedule, datagram, toi, 0, i as u8)?;
-        assert_eq!(rt; datagram.len(), 57);
-        assert!(rt; datagram[32..].starts_with(starts[i]), "symbol {i}");
+    let mut esi = 0u8;
+    for start in starts {
+        check_next(rt, schedule, datagram, (toi, 0, esi), 57, start, row)?;
+        esi = esi.wrapping_add(1);
     }
     Ok(())
 }
 
+/// The instance of each descriptor, which lists the file or nothing.
+fn instances_of(
+    alloc: Global,
+    descriptors: &[u128],
+    listed: &[u128],
+) -> Result<Vec<SentInstance>, Fail> {
+    let mut instances = Vec::new(alloc);
+    for toi in descriptors {
+        instances.push(instance(alloc, *toi, listed)?)?;
+    }
+    Ok(instances)
+}
+
 #[test]
 fn six_datagrams_of_a_file_and_its_descriptor(rt: HostRuntime) -> Result<(), Fail> {
-    let mut instances = Vec::new(rt.alloc());
-    instances.push(instance(rt.alloc(), 2, &[1])?)?;
-    let session = hi_session(rt.alloc(), instances, 1)?;
+    let alloc = rt.alloc();
+    let session = hi_session(alloc, instances_of(alloc, &[2], &[1])?, 1)?;
     let mut schedule = Schedule::new(&session);
-    let mut datagram = Vec::new(rt.alloc());
+    let mut datagram = Vec::new(alloc);
     let descriptor: [&[u8]; 3] = [
         b"\x03\x00\x69\xFA\x00\x00\x00\x19Fcast-CID-ID: 1\r\n",
         b"\x00\x00\x001\x00\x00\x00\x00",
@@ -122,72 +139,60 @@ fn six_datagrams_of_a_file_and_its_descriptor(rt: HostRuntime) -> Result<(), Fai
         b" a\r\nContent-Length: 2\r\nhi",
         b"\x64\xA3",
     ];
-    assert_three(&rt, &mut schedule, &mut datagram, 2, descriptor)?;
-    assert_three(&rt, &mut schedule, &mut datagram, 1, file)?;
-    assert_end(&rt, &mut schedule, &mut datagram)
-}
+    check_three(&rt, &mut schedule, &mut datagram, 2, &descriptor, 1)?;
+    check_three(&rt, &mut schedule, &mut datagram, 1, &file, 2)?;
+    check_end(&rt, &mut schedule, &mut datagram, 3)?;
 
-#[test]
-fn the_first_datagram_in_full(rt: HostRuntime) -> Result<(), Fail> {
-    let mut instances = Vec::new(rt.alloc());
-    instances.push(instance(rt.alloc(), 2, &[1])?)?;
-    let session = hi_session(rt.alloc(), instances, 1)?;
-    let mut schedule = Schedule::new(&session);
-    let mut datagram = Vec::new(rt.alloc());
-    assert!(&rt; schedule.next(&mut datagram)?);
-    assert_eq!(&rt; datagram.len(), 57);
-    assert!(&rt; datagram.starts_with(DESCRIPTOR_HEADER));
-    assert!(&rt; datagram[28..].starts_with(&[0, 0, 0, 0]));
-    assert!(&rt; datagram[32..].starts_with(&LIST_ONE_DESCRIPTOR[..25]));
+    // The first datagram in full.
+    let mut again = Schedule::new(&session);
+    let first = &LIST_ONE_DESCRIPTOR[..25];
+    check_next(&rt, &mut again, &mut datagram, (2, 0, 0), 57, first, 4)?;
+    same(&rt, &datagram.starts_with(DESCRIPTOR_HEADER), &true, 5);
+    same(
+        &rt,
+        &datagram.get(28..32),
+        &Some([0, 0, 0, 0].as_slice()),
+        6,
+    );
     Ok(())
 }
 
-#[test]
-fn an_instance_without_files(rt: HostRuntime) -> Result<(), Fail> {
-    let mut instances = Vec::new(rt.alloc());
-    instances.push(instance(rt.alloc(), 2, &[])?)?;
-    let session = hi_session(rt.alloc(), instances, 1)?;
-    let mut schedule = Schedule::new(&session);
-    let mut datagram = Vec::new(rt.alloc());
-    let nothing: &[u8] = &[];
-    assert_three(
-        &rt,
-        &mut schedule,
-        &mut datagram,
-        2,
-        [nothing, nothing, nothing],
-    )?;
-    assert_end(&rt, &mut schedule, &mut datagram)?;
-    assert_end(&rt, &mut schedule, &mut datagram)
-}
+/// Nothing is asked of the symbols.
+const ANY: [&[u8]; 3] = [&[], &[], &[]];
 
 #[test]
-fn a_session_without_instances(rt: HostRuntime) -> Result<(), Fail> {
-    let session = hi_session(rt.alloc(), Vec::new(rt.alloc()), 3)?;
+fn instances_without_files_and_sessions_without_instances(rt: HostRuntime) -> Result<(), Fail> {
+    let alloc = rt.alloc();
+    let mut datagram = Vec::new(alloc);
+    let session = hi_session(alloc, instances_of(alloc, &[2], &[])?, 1)?;
     let mut schedule = Schedule::new(&session);
-    let mut datagram = Vec::new(rt.alloc());
-    assert_end(&rt, &mut schedule, &mut datagram)
+    check_three(&rt, &mut schedule, &mut datagram, 2, &ANY, 10)?;
+    check_end(&rt, &mut schedule, &mut datagram, 11)?;
+    check_end(&rt, &mut schedule, &mut datagram, 12)?;
+
+    let session = hi_session(alloc, Vec::new(alloc), 3)?;
+    check_end(&rt, &mut Schedule::new(&session), &mut datagram, 13)
 }
 
 #[test]
 fn two_instances_share_a_file_and_are_sent_twice(rt: HostRuntime) -> Result<(), Fail> {
-    let mut instances = Vec::new(rt.alloc());
-    instances.push(instance(rt.alloc(), 2, &[1])?)?;
-    instances.push(instance(rt.alloc(), 3, &[1])?)?;
-    let session = hi_session(rt.alloc(), instances, 2)?;
+    let alloc = rt.alloc();
+    let session = hi_session(alloc, instances_of(alloc, &[2, 3], &[1])?, 2)?;
     let mut schedule = Schedule::new(&session);
-    let mut datagram = Vec::new(rt.alloc());
-    let nothing: &[u8] = &[];
-    for toi in [2u128, 1, 2, 1, 3, 1, 3, 1] {
-        assert_three(
-            &rt,
-            &mut schedule,
-            &mut datagram,
-            toi,
-            [nothing, nothing, nothing],
-        )?;
+    let mut datagram = Vec::new(alloc);
+    for (row, toi) in [
+        (20, 2u128),
+        (21, 1),
+        (22, 2),
+        (23, 1),
+        (24, 3),
+        (25, 1),
+        (26, 3),
+        (27, 1),
+    ] {
+        check_three(&rt, &mut schedule, &mut datagram, toi, &ANY, row)?;
     }
-    assert_end(&rt, &mut schedule, &mut datagram)
+    check_end(&rt, &mut schedule, &mut datagram, 28)
 }
 
 #[test]
@@ -195,38 +200,52 @@ fn a_block_of_255_source_symbols(rt: HostRuntime) -> Result<(), Fail> {
     let session = counting_session(rt.alloc(), 255, 1, 255, 255)?;
     let mut schedule = Schedule::new(&session);
     let mut datagram = Vec::new(rt.alloc());
-    for symbol in 0..255u8 {
-        assert_next(&rt, &mut schedule, &mut datagram, 1, 0, symbol)?;
-        assert_eq!(&rt; datagram.len(), 33);
-        assert_eq!(&rt; datagram[32], symbol % 251);
+    for esi in 0..255u8 {
+        let row = 100 + u32::from(esi);
+        let byte = [esi % 251];
+        check_next(
+            &rt,
+            &mut schedule,
+            &mut datagram,
+            (1, 0, esi),
+            33,
+            &byte,
+            row,
+        )?;
     }
-    assert_end(&rt, &mut schedule, &mut datagram)
+    check_end(&rt, &mut schedule, &mut datagram, 30)
 }
 
 /// Asserts one symbol of each of these blocks.
-fn assert_round(
+fn check_round(
     rt: &impl Abort,
     schedule: &mut Schedule<'_>,
     datagram: &mut Vec<u8>,
-    symbol: u8,
+    esi: u8,
     blocks: u32,
+    row: u32,
 ) -> Result<(), Fail> {
-    for block in 0..blocks {
-        assert_next(rt, schedule, datagram, 1, block, symbol)?;
+    for sbn in 0..blocks {
+        check_next(rt, schedule, datagram, (1, sbn, esi), 1032, &[], row)?;
     }
     Ok(())
 }
 
+/// Ten symbols in blocks of 4, 3 and 3, which have 6, 4 and 4 encoding symbols.
 #[test]
 fn larger_blocks_end_later(rt: HostRuntime) -> Result<(), Fail> {
-    // ten symbols in blocks of 4, 3 and 3, which have 6, 4 and 4 encoding symbols
     let session = counting_session(rt.alloc(), 10_000, 1000, 4, 6)?;
     let mut schedule = Schedule::new(&session);
     let mut datagram = Vec::new(rt.alloc());
-    for symbol in 0..4u8 {
-        assert_round(&rt, &mut schedule, &mut datagram, symbol, 3)?;
+    for (row, esi, blocks) in [
+        (40, 0u8, 3),
+        (41, 1, 3),
+        (42, 2, 3),
+        (43, 3, 3),
+        (44, 4, 1),
+        (45, 5, 1),
+    ] {
+        check_round(&rt, &mut schedule, &mut datagram, esi, blocks, row)?;
     }
-    assert_round(&rt, &mut schedule, &mut datagram, 4, 1)?;
-    assert_round(&rt, &mut schedule, &mut datagram, 5, 1)?;
-    assert_end(&rt, &mut schedule, &mut datagram)
+    check_end(&rt, &mut schedule, &mut datagram, 46)
 }

@@ -11,7 +11,7 @@ use std::alloc::Global;
 use std::test::Fail;
 
 /// The object with this identifier and these bytes.
-pub(super) fn object(
+pub fn object(
     alloc: Global,
     toi: u128,
     bytes: &[u8],
@@ -37,7 +37,7 @@ pub(super) fn object(
 }
 
 /// The instance of a descriptor and these objects.
-pub(super) fn instance(
+pub fn instance(
     alloc: Global,
     descriptor_toi: u128,
     listed: &[u128],
@@ -50,7 +50,7 @@ pub(super) fn instance(
 }
 
 /// The session of three objects and of instances that each list one of them at most.
-pub(super) fn session(
+pub fn session(
     alloc: Global,
     one: SentObject,
     two: SentObject,

@@ -1,259 +1,330 @@
-mod ranges;
+//! Commands with their values, words that are no command, and addresses.
 
-use super::*;
-use meta_text::Label;
-use std::alloc::{AllocError, Global};
+use super::telling::{Told, check_told, check_usage, six};
 use std::test::Fail;
 
-/// The words of a line, parted by single spaces, so that two spaces enclose the empty word.
-fn words_of(alloc: Global, line: &str) -> Result<Vec<Label>, AllocError> {
-    let mut words = Vec::new(alloc);
-    for word in line.split(' ') {
-        words.push(Label::new(String::from_str(alloc, word)?))?;
-    }
-    Ok(words)
-}
-
-/// A command and its values, in the order of its fields; `usage` and `memory` for a fault.
-fn told(alloc: Global, line: &str) -> Result<String, AllocError> {
-    let words = words_of(alloc, line)?;
-    match read_words(alloc, words.as_slice()) {
-        Ok(command) => text_of(alloc, &command),
-        Err(WordFault::Usage) => String::from_str(alloc, "usage"),
-        Err(WordFault::Memory) => String::from_str(alloc, "memory"),
-    }
-}
-
-fn text_of(alloc: Global, command: &Command) -> Result<String, AllocError> {
-    match command {
-        Command::Replay { tsi, budget, most } => format!(in alloc; "replay {tsi} {budget} {most}"),
-        Command::Recv {
-            tsi,
-            budget,
-            addr,
-            port,
-            count,
-        } => { format!(in alloc; "recv {tsi} {budget} {addr:?} {port} {count}") }
-        Command::Send {
-            catalog,
-            addr,
-            port,
-            symbol,
-            block,
-            maxn,
-            cycles,
-            tsi,
-        } => {
-            let catalog = catalog.as_str();
-            format!(in alloc;
-                "send {catalog} {addr:?} {port:?} {symbol} {block} {maxn} {cycles} {tsi}"
-            )
-        }
-        Command::Dump { most } => format!(in alloc; "dump {most}"),
-        Command::Drill { start } => format!(in alloc; "drill {start}"),
-        Command::Listen {
-            tsi,
-            budget,
-            most,
-            addr,
-            port,
-            count,
-            readers,
-        } => {
-            format!(in alloc; "listen {tsi} {budget} {most} {addr:?} {port:?} {count:?} {readers}")
-        }
-    }
-}
+/// A command's word, its catalog and its address.
+type Head = (&'static str, &'static str, Option<[u8; 4]>);
 
 #[test]
 fn commands_with_their_values(rt: HostRuntime) -> Result<(), Fail> {
-    let cases = [
-        ("replay", "replay 1 67108864 4294967295"),
-        ("replay --most 2 --tsi 0 --budget 4096", "replay 0 4096 2"),
+    let cases: [(u32, &[&str], Head, &[Option<u64>]); 13] = [
         (
-            "recv --addr 127.0.0.1 --port 9 --count 3",
-            "recv 1 67108864 [127, 0, 0, 1] 9 3",
+            1,
+            &["replay"],
+            ("replay", "", None),
+            &[Some(1), Some(67108864), Some(4294967295)],
         ),
         (
-            "recv --count 3 --port 9 --budget 5000 --addr 127.000.00.1 --tsi 7",
-            "recv 7 5000 [127, 0, 0, 1] 9 3",
-        ),
-        ("send --catalog c", "send c None None 1024 64 128 1 1"),
-        (
-            "send --catalog c --symbol 25 --block 2 --maxn 3",
-            "send c None None 25 2 3 1 1",
+            2,
+            &["replay", "--most", "2", "--tsi", "0", "--budget", "4096"],
+            ("replay", "", None),
+            &[Some(0), Some(4096), Some(2)],
         ),
         (
-            "send --tsi 5 --cycles 4 --port 1 --addr 255.1.2.3 --catalog \u{E9}t\u{E9}=1",
-            "send \u{E9}t\u{E9}=1 Some([255, 1, 2, 3]) Some(1) 1024 64 128 4 5",
-        ),
-        ("dump", "dump 4294967295"),
-        ("dump --most 00000000000000000007", "dump 7"),
-        (
-            "drill --start 18446744073709551615",
-            "drill 18446744073709551615",
-        ),
-        ("listen", "listen 1 67108864 4294967295 None None None 1"),
-        (
-            "listen --readers 16 --most 3",
-            "listen 1 67108864 3 None None None 16",
+            3,
+            &["recv", "--addr", "127.0.0.1", "--port", "9", "--count", "3"],
+            ("recv", "", Some([127, 0, 0, 1])),
+            &[Some(1), Some(67108864), Some(9), Some(3)],
         ),
         (
-            "listen --count 2 --addr 0.0.0.0 --most 3 --port 65535",
-            "listen 1 67108864 3 Some([0, 0, 0, 0]) Some(65535) Some(2) 1",
+            4,
+            &[
+                "recv",
+                "--count",
+                "3",
+                "--port",
+                "9",
+                "--budget",
+                "5000",
+                "--addr",
+                "127.000.00.1",
+                "--tsi",
+                "7",
+            ],
+            ("recv", "", Some([127, 0, 0, 1])),
+            &[Some(7), Some(5000), Some(9), Some(3)],
+        ),
+        (
+            5,
+            &["send", "--catalog", "c"],
+            ("send", "c", None),
+            &[None, Some(1024), Some(64), Some(128), Some(1), Some(1)],
+        ),
+        (
+            6,
+            &[
+                "send",
+                "--catalog",
+                "c",
+                "--symbol",
+                "25",
+                "--block",
+                "2",
+                "--maxn",
+                "3",
+            ],
+            ("send", "c", None),
+            &[None, Some(25), Some(2), Some(3), Some(1), Some(1)],
+        ),
+        (
+            7,
+            &[
+                "send",
+                "--tsi",
+                "5",
+                "--cycles",
+                "4",
+                "--port",
+                "1",
+                "--addr",
+                "255.1.2.3",
+                "--catalog",
+                "\u{E9}t\u{E9}=1",
+            ],
+            ("send", "\u{E9}t\u{E9}=1", Some([255, 1, 2, 3])),
+            &[Some(1), Some(1024), Some(64), Some(128), Some(4), Some(5)],
+        ),
+        (8, &["dump"], ("dump", "", None), &[Some(4294967295)]),
+        (
+            9,
+            &["dump", "--most", "00000000000000000007"],
+            ("dump", "", None),
+            &[Some(7)],
+        ),
+        (
+            10,
+            &["drill", "--start", "18446744073709551615"],
+            ("drill", "", None),
+            &[Some(18446744073709551615)],
+        ),
+        (
+            11,
+            &["listen"],
+            ("listen", "", None),
+            &[
+                Some(1),
+                Some(67108864),
+                Some(4294967295),
+                None,
+                None,
+                Some(1),
+            ],
+        ),
+        (
+            12,
+            &["listen", "--readers", "16", "--most", "3"],
+            ("listen", "", None),
+            &[Some(1), Some(67108864), Some(3), None, None, Some(16)],
+        ),
+        (
+            13,
+            &[
+                "listen", "--count", "2", "--addr", "0.0.0.0", "--most", "3", "--port", "65535",
+            ],
+            ("listen", "", Some([0, 0, 0, 0])),
+            &[
+                Some(1),
+                Some(67108864),
+                Some(3),
+                Some(65535),
+                Some(2),
+                Some(1),
+            ],
         ),
     ];
-    for (line, want) in cases {
-        assert_eq!(rt; told(rt.alloc(), line)?.as_str(), want, "at {line}");
+    for (row, words, head, numbers) in cases {
+        let wanted = Told {
+            word: head.0,
+            catalog: head.1,
+            addr: head.2,
+            numbers: six(numbers),
+        };
+        check_told(&rt, rt.alloc(), &[words], &wanted, row)?;
     }
     Ok(())
 }
 
 #[test]
 fn words_that_are_no_command(rt: HostRuntime) -> Result<(), Fail> {
-    let none: [Label; 0] = [];
-    assert_eq!(rt;
-        read_words(rt.alloc(), none.as_slice()).err(),
-        Some(WordFault::Usage)
-    );
-    let cases = [
+    check_usage(&rt, rt.alloc(), &[], 99)?;
+    let cases: [(u32, &[&str]); 84] = [
         // The command's word.
-        "",
-        "Replay",
-        "REPLAY",
-        "replay ",
-        " replay",
-        "replay replay",
-        "play",
-        "--help",
-        "--version",
-        "-h",
-        "help",
-        "replay --help",
-        "replay -h",
-        "replay help",
-        "replay --help x",
-        "replay --version x",
-        "--most 1",
+        (100, &[""]),
+        (101, &["Replay"]),
+        (102, &["REPLAY"]),
+        (103, &["replay", ""]),
+        (104, &["", "replay"]),
+        (105, &["replay", "replay"]),
+        (106, &["play"]),
+        (107, &["--help"]),
+        (108, &["--version"]),
+        (109, &["-h"]),
+        (110, &["help"]),
+        (111, &["replay", "--help"]),
+        (112, &["replay", "-h"]),
+        (113, &["replay", "help"]),
+        (114, &["replay", "--help", "x"]),
+        (115, &["replay", "--version", "x"]),
+        (116, &["--most", "1"]),
         // The shape of a pair.
-        "replay --most",
-        "replay --most=1",
-        "replay --most=1 1",
-        "replay --",
-        "replay -- 1",
-        "replay -- --most 1",
-        "replay --most 1 --",
-        "replay -most 1",
-        "replay most 1",
-        "replay -m 1",
-        "replay 1 --most",
-        "replay  1",
-        "replay --most ",
-        "replay --most --tsi",
-        "replay --most -1",
-        "replay --most +1",
-        "replay --mos 1",
-        "replay --MOST 1",
-        "replay --most  1",
-        "replay --most 1 ",
-        "replay --=most 1",
-        "send --catalog -c",
-        "send --catalog +c",
-        "send --catalog ",
+        (117, &["replay", "--most"]),
+        (118, &["replay", "--most=1"]),
+        (119, &["replay", "--most=1", "1"]),
+        (120, &["replay", "--"]),
+        (121, &["replay", "--", "1"]),
+        (122, &["replay", "--", "--most", "1"]),
+        (123, &["replay", "--most", "1", "--"]),
+        (124, &["replay", "-most", "1"]),
+        (125, &["replay", "most", "1"]),
+        (126, &["replay", "-m", "1"]),
+        (127, &["replay", "1", "--most"]),
+        (128, &["replay", "", "1"]),
+        (129, &["replay", "--most", ""]),
+        (130, &["replay", "--most", "--tsi"]),
+        (131, &["replay", "--most", "-1"]),
+        (132, &["replay", "--most", "+1"]),
+        (133, &["replay", "--mos", "1"]),
+        (134, &["replay", "--MOST", "1"]),
+        (135, &["replay", "--most", "", "1"]),
+        (136, &["replay", "--most", "1", ""]),
+        (137, &["replay", "--=most", "1"]),
+        (138, &["send", "--catalog", "-c"]),
+        (139, &["send", "--catalog", "+c"]),
+        (140, &["send", "--catalog", ""]),
         // An option twice, also with one value.
-        "replay --most 1 --most 1",
-        "replay --most 1 --tsi 1 --most 2",
-        "send --catalog c --catalog c",
-        "send --catalog=c",
-        "recv --addr 1.1.1.1 --addr 1.1.1.1 --port 1 --count 1",
-        "recv --addr=1.1.1.1 --port 1 --count 1",
-        "replay --most 1 --most 1 --most 1 --most 1",
+        (141, &["replay", "--most", "1", "--most", "1"]),
+        (142, &["replay", "--most", "1", "--tsi", "1", "--most", "2"]),
+        (143, &["send", "--catalog", "c", "--catalog", "c"]),
+        (144, &["send", "--catalog=c"]),
+        (
+            145,
+            &[
+                "recv", "--addr", "1.1.1.1", "--addr", "1.1.1.1", "--port", "1", "--count", "1",
+            ],
+        ),
+        (
+            146,
+            &["recv", "--addr=1.1.1.1", "--port", "1", "--count", "1"],
+        ),
+        (
+            147,
+            &[
+                "replay", "--most", "1", "--most", "1", "--most", "1", "--most", "1",
+            ],
+        ),
         // Numbers.
-        "replay --most 0",
-        "replay --most 1a",
-        "replay --most 0x1",
-        "replay --most 1.0",
-        "replay --most \u{661}",
-        "replay --most 000000000000000000001",
-        "drill --start 18446744073709551616",
-        "drill --start 99999999999999999999",
+        (148, &["replay", "--most", "0"]),
+        (149, &["replay", "--most", "1a"]),
+        (150, &["replay", "--most", "0x1"]),
+        (151, &["replay", "--most", "1.0"]),
+        (152, &["replay", "--most", "\u{661}"]),
+        (153, &["replay", "--most", "000000000000000000001"]),
+        (154, &["drill", "--start", "18446744073709551616"]),
+        (155, &["drill", "--start", "99999999999999999999"]),
         // Options of other commands.
-        "replay --count 1",
-        "replay --readers 1",
-        "dump --tsi 1",
-        "dump --budget 4096",
-        "recv --most 1",
-        "drill --most 1 --start 1",
-        "send --catalog c --most 1",
-        "send --catalog c --count 1",
-        "send --catalog c --budget 4096",
-        "listen --symbol 8",
-        "replay --addr 1.1.1.1 --port 1 --count 1",
-        "recv --addr 1.1.1.1 --port 1 --count 1 --readers 1",
+        (156, &["replay", "--count", "1"]),
+        (157, &["replay", "--readers", "1"]),
+        (158, &["dump", "--tsi", "1"]),
+        (159, &["dump", "--budget", "4096"]),
+        (160, &["recv", "--most", "1"]),
+        (161, &["drill", "--most", "1", "--start", "1"]),
+        (162, &["send", "--catalog", "c", "--most", "1"]),
+        (163, &["send", "--catalog", "c", "--count", "1"]),
+        (164, &["send", "--catalog", "c", "--budget", "4096"]),
+        (165, &["listen", "--symbol", "8"]),
+        (
+            166,
+            &["replay", "--addr", "1.1.1.1", "--port", "1", "--count", "1"],
+        ),
+        (
+            167,
+            &[
+                "recv",
+                "--addr",
+                "1.1.1.1",
+                "--port",
+                "1",
+                "--count",
+                "1",
+                "--readers",
+                "1",
+            ],
+        ),
         // What is needed, and what comes together.
-        "send",
-        "drill",
-        "recv",
-        "recv --addr 1.1.1.1 --port 1",
-        "recv --addr 1.1.1.1 --count 1",
-        "recv --port 1 --count 1",
-        "send --catalog c --addr 1.1.1.1",
-        "send --catalog c --port 1",
-        "send --addr 1.1.1.1 --port 1",
-        "listen --addr 1.1.1.1",
-        "listen --port 1",
-        "listen --count 1",
-        "listen --addr 1.1.1.1 --port 1",
-        "listen --addr 1.1.1.1 --count 1",
-        "listen --port 1 --count 1",
-        "listen --addr 1.1.1.1 --port 1 --count 1 --most 0",
+        (168, &["send"]),
+        (169, &["drill"]),
+        (170, &["recv"]),
+        (171, &["recv", "--addr", "1.1.1.1", "--port", "1"]),
+        (172, &["recv", "--addr", "1.1.1.1", "--count", "1"]),
+        (173, &["recv", "--port", "1", "--count", "1"]),
+        (174, &["send", "--catalog", "c", "--addr", "1.1.1.1"]),
+        (175, &["send", "--catalog", "c", "--port", "1"]),
+        (176, &["send", "--addr", "1.1.1.1", "--port", "1"]),
+        (177, &["listen", "--addr", "1.1.1.1"]),
+        (178, &["listen", "--port", "1"]),
+        (179, &["listen", "--count", "1"]),
+        (180, &["listen", "--addr", "1.1.1.1", "--port", "1"]),
+        (181, &["listen", "--addr", "1.1.1.1", "--count", "1"]),
+        (182, &["listen", "--port", "1", "--count", "1"]),
+        (
+            183,
+            &[
+                "listen", "--addr", "1.1.1.1", "--port", "1", "--count", "1", "--most", "0",
+            ],
+        ),
     ];
-    for line in cases {
-        assert_eq!(rt; told(rt.alloc(), line)?.as_str(), "usage", "at {line}");
+    for (row, words) in cases {
+        check_usage(&rt, rt.alloc(), &[words], row)?;
     }
     Ok(())
 }
 
+/// The words in front of an address.
+const BEFORE: &[&str] = &["recv", "--port", "1", "--count", "1", "--addr"];
+
 #[test]
 fn addresses(rt: HostRuntime) -> Result<(), Fail> {
-    let alloc = rt.alloc();
     let taken = [
-        ("0.0.0.0", "[0, 0, 0, 0]"),
-        ("255.255.255.255", "[255, 255, 255, 255]"),
-        ("001.020.3.099", "[1, 20, 3, 99]"),
+        (300, "0.0.0.0", [0, 0, 0, 0]),
+        (301, "255.255.255.255", [255, 255, 255, 255]),
+        (302, "001.020.3.099", [1, 20, 3, 99]),
     ];
-    for (address, want) in taken {
-        let line = format!(in alloc; "recv --port 1 --count 1 --addr {address}")?;
-        let want = format!(in alloc; "recv 1 67108864 {want} 1 1")?;
-        assert_eq!(rt; told(alloc, &line)?.as_str(), want.as_str(), "at {address}");
+    for (row, address, addr) in taken {
+        let wanted = Told {
+            word: "recv",
+            catalog: "",
+            addr: Some(addr),
+            numbers: six(&[Some(1), Some(67108864), Some(1), Some(1)]),
+        };
+        check_told(&rt, rt.alloc(), &[BEFORE, &[address]], &wanted, row)?;
     }
     let refused = [
-        "1",
-        "1.2",
-        "1.2.3",
-        "1.2.3.4.5",
-        "1.2.3.4.",
-        ".1.2.3.4",
-        "1..2.3",
-        "1.2.3.",
-        "256.1.1.1",
-        "1.256.1.1",
-        "1.1.256.1",
-        "1.1.1.256",
-        "0001.1.1.1",
-        "1.1.1.0001",
-        "1.1.1.+1",
-        "1.1.-1.1",
-        "1.1.1.a",
-        "1,1,1,1",
-        "::1",
-        "localhost",
-        "1.1.1.1 ",
-        "1.1.1.1:1",
+        (310, "1"),
+        (311, "1.2"),
+        (312, "1.2.3"),
+        (313, "1.2.3.4.5"),
+        (314, "1.2.3.4."),
+        (315, ".1.2.3.4"),
+        (316, "1..2.3"),
+        (317, "1.2.3."),
+        (318, "256.1.1.1"),
+        (319, "1.256.1.1"),
+        (320, "1.1.256.1"),
+        (321, "1.1.1.256"),
+        (322, "0001.1.1.1"),
+        (323, "1.1.1.0001"),
+        (324, "1.1.1.+1"),
+        (325, "1.1.-1.1"),
+        (326, "1.1.1.a"),
+        (327, "1,1,1,1"),
+        (328, "::1"),
+        (329, "localhost"),
+        (330, "1.1.1.1 "),
+        (331, "1.1.1.1:1"),
     ];
-    for address in refused {
-        let line = format!(in alloc; "recv --port 1 --count 1 --addr {address}")?;
-        assert_eq!(rt; told(alloc, &line)?.as_str(), "usage", "at {address}");
+    for (row, address) in refused {
+        check_usage(&rt, rt.alloc(), &[BEFORE, &[address]], row)?;
     }
     Ok(())
 }

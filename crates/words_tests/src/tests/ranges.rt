@@ -1,72 +1,64 @@
 //! Each option of each command at the ends of its range.
 
-use super::told;
+use super::same::same;
+use super::telling::{check_told, check_usage, values_of, words_of};
+use fcast_words::read_words;
 use std::alloc::{AllocError, Global};
 use std::process::Abort;
 use std::test::Fail;
 
 /// An option of a command, with the other options that a line of it needs.
 #[derive(Clone, Copy)]
-struct Place {
-    command: &'static str,
-    others: &'static str,
-    option: &'static str,
+struct Case<'a> {
+    command: &'a str,
+    others: &'a [&'a str],
+    option: &'a str,
 }
 
-/// The line that gives the option this value.
-fn line_of(alloc: Global, place: &Place, value: &str) -> Result<String, AllocError> {
-    let Place {
-        command,
-        others,
-        option,
-    } = place;
-    format!(in alloc; "{command}{others} {option} {value}")
-}
-
-/// The line with the option in front of the others.
-fn turned_line(alloc: Global, place: &Place, value: &str) -> Result<String, AllocError> {
-    let Place {
-        command,
-        others,
-        option,
-    } = place;
-    format!(in alloc; "{command} {option} {value}{others}")
+/// The number with zeros in front, so many digits in all.
+fn padded(alloc: Global, number: u128, digits: usize) -> Result<String, AllocError> {
+    let text = number.to_string(alloc)?;
+    let mut out = String::new(alloc);
+    for _zero in text.len()..digits {
+        out.push_str("0")?;
+    }
+    out.push_str(text.as_str())?;
+    Ok(out)
 }
 
 /// The value is taken, in each order and with zeros in front.
 fn check_taken(
     rt: &impl Abort,
     alloc: Global,
-    place: &Place,
+    case: &Case<'_>,
     value: u128,
-) -> Result<(), AllocError> {
+    row: u32,
+) -> Result<(), Fail> {
     let text = value.to_string(alloc)?;
-    let padded = format!(in alloc; "{value:020}")?;
-    let plain = told(alloc, line_of(alloc, place, text.as_str())?.as_str())?;
-    let turned = told(alloc, turned_line(alloc, place, text.as_str())?.as_str())?;
-    let zeros = told(alloc, line_of(alloc, place, padded.as_str())?.as_str())?;
-    assert!(rt; plain.as_str() != "usage", "at {} {value}", place.option);
-    assert!(rt; turned == plain, "at {} {value}", place.option);
-    assert!(rt; zeros == plain, "at {} {value}", place.option);
-    Ok(())
+    let zeros = padded(alloc, value, 20)?;
+    let front = [case.command];
+    let plain = [case.option, text.as_str()];
+    let long = [case.option, zeros.as_str()];
+    let words = words_of(alloc, &[&front, case.others, &plain])?;
+    let command = read_words(alloc, words.as_slice()).ok().ok_or("a command")?;
+    let wanted = values_of(&command);
+    let number = u64::try_from(value).ok();
+    same(rt, &wanted.numbers.contains(&number), &true, row);
+    check_told(rt, alloc, &[&front, &plain, case.others], &wanted, row)?;
+    check_told(rt, alloc, &[&front, case.others, &long], &wanted, row)
 }
 
-/// The words of this line are no command.
-fn is_refused(alloc: Global, line: &str) -> Result<bool, AllocError> {
-    Ok(told(alloc, line)?.as_str() == "usage")
-}
-
-/// The value is refused.
+/// A line that gives the option this value is no command.
 fn check_refused(
     rt: &impl Abort,
     alloc: Global,
-    place: &Place,
+    case: &Case<'_>,
     value: &str,
+    row: u32,
 ) -> Result<(), AllocError> {
-    let line = line_of(alloc, place, value)?;
-    let refused = is_refused(alloc, line.as_str())?;
-    assert!(rt; refused, "at {line}");
-    Ok(())
+    let front = [case.command];
+    let last = [case.option, value];
+    check_usage(rt, alloc, &[&front, case.others, &last], row)
 }
 
 /// The number below this one; below zero there is none, so a text that is no number.
@@ -81,59 +73,79 @@ fn text_below(alloc: Global, least: u128) -> Result<String, AllocError> {
 fn check_outside(
     rt: &impl Abort,
     alloc: Global,
-    place: &Place,
+    case: &Case<'_>,
     least: u128,
     greatest: u128,
+    row: u32,
 ) -> Result<(), AllocError> {
     let below = text_below(alloc, least)?;
     let above = greatest.saturating_add(1).to_string(alloc)?;
-    let long = format!(in alloc; "{greatest:021}")?;
-    check_refused(rt, alloc, place, below.as_str())?;
-    check_refused(rt, alloc, place, above.as_str())?;
-    check_refused(rt, alloc, place, long.as_str())?;
-    check_refused(rt, alloc, place, "")
+    let long = padded(alloc, greatest, 21)?;
+    check_refused(rt, alloc, case, below.as_str(), row)?;
+    check_refused(rt, alloc, case, above.as_str(), row)?;
+    check_refused(rt, alloc, case, long.as_str(), row)?;
+    check_refused(rt, alloc, case, "", row)
+}
+
+/// The option and its value as one word.
+fn joined(alloc: Global, option: &str, value: &str) -> Result<String, AllocError> {
+    let mut out = String::from_str(alloc, option)?;
+    out.push_str("=")?;
+    out.push_str(value)?;
+    Ok(out)
 }
 
 /// The option twice, without a value behind it, and joined to its value.
 fn check_forms(
     rt: &impl Abort,
     alloc: Global,
-    place: &Place,
+    case: &Case<'_>,
     value: u128,
+    row: u32,
 ) -> Result<(), AllocError> {
-    let Place {
-        command,
-        others,
-        option,
-    } = place;
-    let twice = format!(in alloc; "{value} {option} {value}")?;
-    let bare = format!(in alloc; "{command}{others} {option}")?;
-    let joined = format!(in alloc; "{command}{others} {option}={value}")?;
-    let bare_refused = is_refused(alloc, bare.as_str())?;
-    let joined_refused = is_refused(alloc, joined.as_str())?;
-    assert!(rt; bare_refused, "at {bare}");
-    assert!(rt; joined_refused, "at {joined}");
-    check_refused(rt, alloc, place, twice.as_str())
+    let text = value.to_string(alloc)?;
+    let one = joined(alloc, case.option, text.as_str())?;
+    let front = [case.command];
+    let pair = [case.option, text.as_str()];
+    check_usage(rt, alloc, &[&front, case.others, &pair, &pair], row)?;
+    check_usage(rt, alloc, &[&front, case.others, &[case.option]], row)?;
+    check_usage(rt, alloc, &[&front, case.others, &[one.as_str()]], row)
 }
 
-fn check(
+/// The ends of the option's range, what stands outside of it, and its forms: rows row to row + 3.
+fn check_case(
     rt: &impl Abort,
     alloc: Global,
-    command: &'static str,
-    others: &'static str,
-    option: &'static str,
+    case: &Case<'_>,
     least: u128,
     greatest: u128,
-) -> Result<(), AllocError> {
-    let place = Place {
-        command,
-        others,
-        option,
-    };
-    check_taken(rt, alloc, &place, least)?;
-    check_taken(rt, alloc, &place, greatest)?;
-    check_outside(rt, alloc, &place, least, greatest)?;
-    check_forms(rt, alloc, &place, least)
+    row: u32,
+) -> Result<(), Fail> {
+    check_taken(rt, alloc, case, least, row)?;
+    check_taken(rt, alloc, case, greatest, row.wrapping_add(1))?;
+    check_outside(rt, alloc, case, least, greatest, row.wrapping_add(2))?;
+    check_forms(rt, alloc, case, least, row.wrapping_add(3))?;
+    Ok(())
+}
+
+/// A row, the option, the others that a line needs, and the least and the greatest value.
+type Row<'a> = (u32, &'a str, &'a [&'a str], u128, u128);
+
+fn check_command(
+    rt: &impl Abort,
+    alloc: Global,
+    command: &str,
+    rows: &[Row<'_>],
+) -> Result<(), Fail> {
+    for (row, option, others, least, greatest) in rows {
+        let case = Case {
+            command,
+            others,
+            option,
+        };
+        check_case(rt, alloc, &case, *least, *greatest, *row)?;
+    }
+    Ok(())
 }
 
 const TSI: u128 = 281_474_976_710_655;
@@ -142,88 +154,60 @@ const BUDGET: u128 = 1_073_741_824;
 
 const DATAGRAMS: u128 = 4_294_967_295;
 
+/// What a line over UDP needs, without its port, and without its count.
+const PORTS: &[&str] = &["--addr", "1.2.3.4", "--count", "1"];
+
+const COUNTS: &[&str] = &["--addr", "1.2.3.4", "--port", "1"];
+
+const WHOLE: &[&str] = &["--addr", "1.2.3.4", "--port", "1", "--count", "1"];
+
 #[test]
-fn of_replay(rt: HostRuntime) -> Result<(), Fail> {
-    check(&rt, rt.alloc(), "replay", "", "--tsi", 0, TSI)?;
-    check(&rt, rt.alloc(), "replay", "", "--budget", 4096, BUDGET)?;
-    check(&rt, rt.alloc(), "replay", "", "--most", 1, DATAGRAMS)?;
-    Ok(())
+fn of_receiving(rt: HostRuntime) -> Result<(), Fail> {
+    let replay: [Row<'_>; 3] = [
+        (10, "--tsi", &[], 0, TSI),
+        (20, "--budget", &[], 4096, BUDGET),
+        (30, "--most", &[], 1, DATAGRAMS),
+    ];
+    check_command(&rt, rt.alloc(), "replay", &replay)?;
+    let recv: [Row<'_>; 4] = [
+        (40, "--tsi", WHOLE, 0, TSI),
+        (50, "--budget", WHOLE, 4096, BUDGET),
+        (60, "--port", PORTS, 1, 65_535),
+        (70, "--count", COUNTS, 1, DATAGRAMS),
+    ];
+    check_command(&rt, rt.alloc(), "recv", &recv)?;
+    let listen: [Row<'_>; 6] = [
+        (80, "--tsi", &[], 0, TSI),
+        (90, "--budget", &[], 4096, BUDGET),
+        (100, "--most", &[], 1, DATAGRAMS),
+        (110, "--readers", &[], 1, 16),
+        (120, "--port", PORTS, 1, 65_535),
+        (130, "--count", COUNTS, 1, DATAGRAMS),
+    ];
+    check_command(&rt, rt.alloc(), "listen", &listen)
 }
 
 #[test]
-fn of_recv(rt: HostRuntime) -> Result<(), Fail> {
-    let whole = " --addr 1.2.3.4 --port 1 --count 1";
-    let ports = " --addr 1.2.3.4 --count 1";
-    let counts = " --addr 1.2.3.4 --port 1";
-    check(&rt, rt.alloc(), "recv", whole, "--tsi", 0, TSI)?;
-    check(&rt, rt.alloc(), "recv", whole, "--budget", 4096, BUDGET)?;
-    check(&rt, rt.alloc(), "recv", ports, "--port", 1, 65_535)?;
-    check(&rt, rt.alloc(), "recv", counts, "--count", 1, DATAGRAMS)?;
-    Ok(())
-}
-
-#[test]
-fn of_send(rt: HostRuntime) -> Result<(), Fail> {
-    let to = " --catalog c --addr 1.2.3.4";
-    check(&rt, rt.alloc(), "send", to, "--port", 1, 65_535)?;
-    check(
-        &rt,
-        rt.alloc(),
-        "send",
-        " --catalog c",
-        "--symbol",
-        8,
-        65_475,
-    )?;
-    check(&rt, rt.alloc(), "send", " --catalog c", "--block", 1, 255)?;
-    check(&rt, rt.alloc(), "send", " --catalog c", "--maxn", 1, 255)?;
-    Ok(())
-}
-
-#[test]
-fn of_the_session_sent(rt: HostRuntime) -> Result<(), Fail> {
-    check(&rt, rt.alloc(), "send", " --catalog c", "--cycles", 1, 1000)?;
-    check(
-        &rt,
-        rt.alloc(),
-        "send",
-        " --catalog c",
-        "--tsi",
-        0,
-        4_294_967_295,
-    )?;
-    Ok(())
-}
-
-#[test]
-fn of_dump_and_drill(rt: HostRuntime) -> Result<(), Fail> {
-    check(&rt, rt.alloc(), "dump", "", "--most", 1, DATAGRAMS)?;
-    check(
-        &rt,
-        rt.alloc(),
-        "drill",
-        "",
-        "--start",
-        0,
-        18_446_744_073_709_551_615,
-    )?;
-    Ok(())
-}
-
-#[test]
-fn of_listen(rt: HostRuntime) -> Result<(), Fail> {
-    check(&rt, rt.alloc(), "listen", "", "--tsi", 0, TSI)?;
-    check(&rt, rt.alloc(), "listen", "", "--budget", 4096, BUDGET)?;
-    check(&rt, rt.alloc(), "listen", "", "--most", 1, DATAGRAMS)?;
-    check(&rt, rt.alloc(), "listen", "", "--readers", 1, 16)?;
-    Ok(())
-}
-
-#[test]
-fn of_listen_over_udp(rt: HostRuntime) -> Result<(), Fail> {
-    let ports = " --addr 1.2.3.4 --count 1";
-    let counts = " --addr 1.2.3.4 --port 1";
-    check(&rt, rt.alloc(), "listen", ports, "--port", 1, 65_535)?;
-    check(&rt, rt.alloc(), "listen", counts, "--count", 1, DATAGRAMS)?;
-    Ok(())
+fn of_the_others(rt: HostRuntime) -> Result<(), Fail> {
+    let catalog: &[&str] = &["--catalog", "c"];
+    let send: [Row<'_>; 6] = [
+        (
+            200,
+            "--port",
+            &["--catalog", "c", "--addr", "1.2.3.4"],
+            1,
+            65_535,
+        ),
+        (210, "--symbol", catalog, 8, 65_475),
+        (220, "--block", catalog, 1, 255),
+        (230, "--maxn", catalog, 1, 255),
+        (240, "--cycles", catalog, 1, 1000),
+        (250, "--tsi", catalog, 0, 4_294_967_295),
+    ];
+    check_command(&rt, rt.alloc(), "send", &send)?;
+    let dump: [Row<'_>; 1] = [(260, "--most", &[], 1, DATAGRAMS)];
+    check_command(&rt, rt.alloc(), "dump", &dump)?;
+    let greatest = 18_446_744_073_709_551_615;
+    let drill: [Row<'_>; 1] = [(270, "--start", &[], 0, greatest)];
+    check_command(&rt, rt.alloc(), "drill", &drill)
 }

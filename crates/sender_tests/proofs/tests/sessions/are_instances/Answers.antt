@@ -3,7 +3,7 @@ use Rattle.std.proofs.Common.{◌≡◌, ℕ, ◌<◌, ◌≤◌, length, get_or
 use Rattle.std.proofs.lemmas.Bool.{cases_lt}
 use Rattle.std.proofs.lemmas.List.{get_or_default}
 use Rattle.sender_plan.specs.Session.{SentInstance, IsInstance}
-use Rattle.sender_schedule.proofs.tests.sessions.are_instances.Goals as goal
+use Rattle.sender_tests.proofs.tests.sessions.are_instances.Goals as goal
 
 pub loop-i-preserved : goal.loop-i-preserved
 loop-i-preserved c s few k d less = elim (cases_lt k c.loop-i.i) [

@@ -2,7 +2,7 @@
 use Rattle.std.proofs.Common.{◌≡◌, ℕ, zero, suc, ◌≤◌, List, [], ◌∷◌, ◌++◌, true, Some, length, sym, ap, ◌∙◌, subst, arith, rules}
 use Rattle.std.specs.Prelude.{All, slice_get}
 use Rattle.sender_plan.specs.Session.{Session, SentObject, SentInstance, IsObject, IsInstance, IsSession}
-use Rattle.sender_schedule.proofs.tests.sessions.session.Goals as goal
+use Rattle.sender_tests.proofs.tests.sessions.session.Goals as goal
 
 three : (a b c : SentObject) (is : List SentInstance) (cycles : ℕ) → IsObject 0 a → IsObject 1 b → IsObject 2 c
     → ((s : Session) → 3 ≤ length s.objects → All (IsInstance s) is) → 1 ≤ cycles

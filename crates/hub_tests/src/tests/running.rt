@@ -1,10 +1,17 @@
 //! Readers in threads.
 ghost use Rattle.std.specs.Prelude.{◌≡◌, []};
 
-use super::*;
-use std::sync::Arc;
+use super::hubs::{is_whole, publish_below};
+use super::same::same;
+use carousel_cid::Instance;
+use snapshot_hub::{Hub, Look, Naming, Publisher, make};
+use std::alloc::Global;
+use std::marker::Brand;
+use std::process::Abort;
 use std::sync::atomic::{AtomicBool, Ordering};
-use std::thread::{JoinHandle, spawn};
+use std::sync::{Arc, Wait};
+use std::test::Fail;
+use std::thread::{JoinHandle, Threads, spawn};
 
 /// What a reader found: the last number, and whether all that it was shown was whole and no number fell.
 #[derive(Drop)]
@@ -52,7 +59,7 @@ fn start<H: Naming + Send + Sync + 'static, R: Threads + Wait + Copy + Send + 's
     }
 }
 
-/// Two readers in threads, and the word that tells them to stop.
+/// Two readers in threads, and the flag that tells them to stop.
 fn start_two<H: Naming + Send + Sync + 'static, R: Threads + Wait + Copy + Send + 'static>(
     rt: &R,
     alloc: Global,
@@ -90,8 +97,8 @@ fn read_beside<
     let outcome = publish_beside(rt, alloc, &mut publisher, looks);
     publisher.end(rt);
     for found in outcome? {
-        assert!(rt; found.sound);
-        assert_eq!(rt; found.last, Some(9_999));
+        same(rt, &found.sound, &true, 1);
+        same(rt, &found.last, &Some(9_999), 2);
     }
     Ok(())
 }
@@ -125,7 +132,7 @@ fn end_beside<H: Naming + Send + Sync + 'static, R: Threads + Wait + Abort + Cop
 {
     let (publisher, looks) = make::<R, H>(rt, hub)?;
     for found in publish_and_end(rt, alloc, publisher, looks)? {
-        assert!(rt; found.sound);
+        same(rt, &found.sound, &true, 3);
     }
     Ok(())
 }

@@ -1,4 +1,4 @@
-use Rattle.snapshot_hub.proofs.tests.running.ends_while_readers_look.Given as goal
+use Rattle.hub_tests.proofs.tests.running.ends_while_readers_look.Given as goal
 
 -- the book of the hub that was just made
 abbrev pub ghosts-end_beside : goal.ghosts-end_beside

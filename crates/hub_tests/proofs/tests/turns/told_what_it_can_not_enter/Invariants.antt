@@ -1,4 +1,4 @@
-use Rattle.snapshot_hub.proofs.tests.turns.told_what_it_can_not_enter.Given as goal
+use Rattle.hub_tests.proofs.tests.turns.told_what_it_can_not_enter.Given as goal
 
 -- the book of the hub that was just made
 abbrev pub ghosts-tell_and_end : goal.ghosts-tell_and_end

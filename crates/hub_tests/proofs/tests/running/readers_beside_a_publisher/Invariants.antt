@@ -1,4 +1,4 @@
-use Rattle.snapshot_hub.proofs.tests.running.readers_beside_a_publisher.Given as goal
+use Rattle.hub_tests.proofs.tests.running.readers_beside_a_publisher.Given as goal
 
 -- the book of the hub that was just made
 abbrev pub ghosts-read_beside : goal.ghosts-read_beside

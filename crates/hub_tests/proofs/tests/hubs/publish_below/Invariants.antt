@@ -1,6 +1,6 @@
 use Rattle.std.proofs.Common.{◌≤◌, length}
 use Rattle.snapshot_hub.specs.Histories.{height}
-use Rattle.snapshot_hub.proofs.tests.publish_below.Given as goal
+use Rattle.hub_tests.proofs.tests.hubs.publish_below.Given as goal
 
 -- each number so far was published once
 abbrev pub invariant-loop-number : goal.invariant-loop-number

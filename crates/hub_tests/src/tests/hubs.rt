@@ -2,19 +2,13 @@
 ghost use Rattle.std.specs.Prelude.{◌≡◌, ◌+◌, ◌-◌, ◌<◌, ◌≤◌, ◌^◌, [], length, IfOk, OnOk};
 ghost use Rattle.snapshot_hub.specs.Histories.{height};
 
-use super::*;
 use carousel_cid::{FileList, FileOf, Identifiers, Instance};
 use compound_object::Blob;
 use meta_text::Label;
+use snapshot_hub::{Look, Naming, Publisher};
 use std::alloc::Global;
-use std::marker::Brand;
-use std::process::Abort;
 use std::sync::Wait;
-use std::test::*;
-use std::thread::Threads;
-
-mod running;
-mod turns;
+use std::test::Fail;
 
 /// A file whose bytes are the instance's number.
 fn file(alloc: Global, toi: u128, number: u32) -> Result<FileOf, Fail>
@@ -43,7 +37,7 @@ fn instance(alloc: Global, number: u32) -> Result<Instance, Fail>
 }
 
 /// Says whether all parts are those of one instance.
-fn is_whole(instance: &Instance) -> bool {
+pub fn is_whole(instance: &Instance) -> bool {
     let bytes = instance.number.to_be_bytes();
     instance.descriptor_toi == u128::from(instance.number) + 3
         && instance.files.as_slice().len() == 2
@@ -55,8 +49,8 @@ fn is_whole(instance: &Instance) -> bool {
 }
 
 /// Publishes an instance of this number.
-#[tactic(auto, using(crate::proofs::Rising::last_snoc))]
-fn publish<H: Naming, R: Wait>(
+#[tactic(auto, using(snapshot_hub::proofs::Public::last_snoc))]
+pub fn publish<H: Naming, R: Wait>(
     rt: &R,
     alloc: Global,
     publisher: &mut Publisher<H>,
@@ -74,7 +68,7 @@ fn publish<H: Naming, R: Wait>(
 }
 
 /// Publishes an instance of each number below this one.
-fn publish_below<H: Naming, R: Wait>(
+pub fn publish_below<H: Naming, R: Wait>(
     rt: &R,
     alloc: Global,
     publisher: &mut Publisher<H>,
@@ -89,7 +83,7 @@ fn publish_below<H: Naming, R: Wait>(
 }
 
 /// Looks, and says which number it was shown.
-fn seen<H: Naming>(look: Look<H>) -> (Look<H>, Option<u32>) {
+pub fn seen<H: Naming>(look: Look<H>) -> (Look<H>, Option<u32>) {
     let glance = look.look();
     let number = glance.instance().map(|instance| instance.number);
     (glance.leave(), number)

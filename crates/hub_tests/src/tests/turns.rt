@@ -1,7 +1,14 @@
 //! One thread that publishes and looks in turn.
 ghost use Rattle.std.specs.Prelude.{◌≡◌, []};
 
-use super::*;
+use super::hubs::{is_whole, publish, publish_below, seen};
+use super::same::same;
+use snapshot_hub::{Hub, Look, Naming, Publisher, Told, make};
+use std::alloc::Global;
+use std::marker::Brand;
+use std::process::Abort;
+use std::sync::Wait;
+use std::test::Fail;
 
 #[test]
 fn looks_in_turn(rt: HostRuntime) -> Result<(), Fail> {
@@ -13,7 +20,7 @@ fn with_one_reader<H: Naming, R: Wait + Abort>(rt: &R, alloc: Global, hub: Hub) 
 {
     let (mut publisher, mut looks) = make::<R, H>(rt, hub)?;
     let look = looks.pop();
-    assert!(rt; looks.is_empty());
+    same(rt, &looks.is_empty(), &true, 1);
     let outcome = look_in_turn(rt, alloc, &mut publisher, look);
     publisher.end(rt);
     outcome
@@ -28,19 +35,17 @@ fn look_in_turn<H: Naming, R: Wait + Abort>(
     requires { publisher.old ≡ [] }
 {
     let (look, number) = seen(look.ok_or("one reader")?);
-    assert_eq!(rt; number, None);
+    same(rt, &number, &None, 2);
     publish(rt, alloc, publisher, 4)?;
     let glance = look.look();
     publish(rt, alloc, publisher, 4)?;
     publish(rt, alloc, publisher, 9)?;
-    assert!(rt;
-        glance
-            .instance()
-            .is_some_and(|instance| instance.number == 4 && is_whole(instance))
-    );
+    let number = glance.instance().map(|instance| instance.number);
+    same(rt, &number, &Some(4), 3);
+    same(rt, &glance.instance().is_some_and(is_whole), &true, 4);
     let (look, number) = seen(glance.leave());
-    assert_eq!(rt; number, Some(9));
-    assert!(rt; publisher.has_published(&look));
+    same(rt, &number, &Some(9), 5);
+    same(rt, &publisher.has_published(&look), &true, 6);
     Ok(())
 }
 
@@ -57,11 +62,11 @@ fn tell_and_end<H: Naming, R: Wait + Abort>(rt: &R, alloc: Global, hub: Hub) -> 
     publisher.end(rt);
     let (older, newer) = told?;
     let (look, number) = seen(looks.pop().ok_or("one reader")?);
-    assert_eq!(rt; number, None);
+    same(rt, &number, &None, 10);
     let (look, number) = seen(look.learn(newer));
-    assert_eq!(rt; number, Some(7));
+    same(rt, &number, &Some(7), 11);
     let (_look, number) = seen(look.learn(older));
-    assert_eq!(rt; number, Some(7));
+    same(rt, &number, &Some(7), 12);
     Ok(())
 }
 
@@ -95,6 +100,6 @@ fn with_one_that_never_looks<H: Naming, R: Wait + Abort>(
     let outcome = publish_below(rt, alloc, &mut publisher, 100);
     let number = looks.pop().and_then(|look| seen(look).1);
     publisher.end(rt);
-    assert_eq!(rt; number, Some(99));
+    same(rt, &number, &Some(99), 20);
     outcome
 }

@@ -1,4 +1,4 @@
-use Rattle.snapshot_hub.proofs.tests.turns.one_never_looks.Given as goal
+use Rattle.hub_tests.proofs.tests.turns.one_never_looks.Given as goal
 
 -- the book of the hub that was just made
 abbrev pub ghosts-with_one_that_never_looks : goal.ghosts-with_one_that_never_looks
