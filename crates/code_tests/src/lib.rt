@@ -1,5 +1,4 @@
-//! Tests of the code and of the wire: worked values from the RFCs and from other programs. There is nothing here but
-//! tests.
+//! Tests of the code: worked values of the RFC, and symbols of other programs' making. There is nothing here but tests.
 #![tactic(auto)]
 
 #[cfg(test)]

@@ -1,14 +1,7 @@
-//! Tables of bytes and of what they mean.
+//! Tables of elements, symbols and blocks.
 
-mod blocks;
-mod datagrams;
 mod field;
-mod headers;
-mod making;
-mod packets;
-mod refusals;
 mod same;
 mod solving;
 mod symbols;
-mod widths;
 mod zeros;

@@ -129,28 +129,36 @@ fn any_four_of_eight_symbols(rt: HostRuntime) -> Result<(), Fail> {
     Ok(())
 }
 
+/// Asserts that the block of the sample bytes comes from the symbols at these places, one byte each.
+fn check_sample(
+    rt: &impl Abort,
+    alloc: Global,
+    count: u8,
+    places: &[u8],
+    steps: u64,
+    row: u32,
+) -> Result<(), Fail> {
+    let bytes = sample_bytes(alloc, count)?;
+    if count == 0 || bytes.len() != usize::from(count) {
+        return Err(Fail::from("a byte a row"));
+    }
+    let rows = symbols(alloc, &Block::new(count, 1, &bytes), 1, places)?;
+    check_solved(rt, alloc, 1, places, &rows, (&bytes, steps), row)
+}
+
 /// All 255 places that exist, and all but the first.
 #[test]
 fn places_of_every_symbol(rt: HostRuntime) -> Result<(), Fail> {
-    let alloc = rt.alloc();
-    let bytes = sample_bytes(alloc, 255)?;
-    if bytes.len() != 255 {
-        return Err(Fail::from("255 bytes"));
-    }
-    let mut places = vec![in alloc]?;
+    let mut falling = vec![in rt.alloc()]?;
     for i in 0..255u8 {
-        places.push(254 - i)?;
+        falling.push(254 - i)?;
     }
-    let rows = symbols(alloc, &Block::new(255, 1, &bytes), 1, &places)?;
-    check_solved(&rt, alloc, 1, &places, &rows, (&bytes, 0), 20)?;
-
-    let mut places = vec![in alloc]?;
+    check_sample(&rt, rt.alloc(), 255, &falling, 0, 20)?;
+    let mut rising = vec![in rt.alloc()]?;
     for place in 1..255u8 {
-        places.push(place)?;
+        rising.push(place)?;
     }
-    let fewer = &bytes[..254];
-    let rows = symbols(alloc, &Block::new(254, 1, fewer), 1, &places)?;
-    check_solved(&rt, alloc, 1, &places, &rows, (fewer, 254), 21)
+    check_sample(&rt, rt.alloc(), 254, &rising, 254, 21)
 }
 
 #[test]

@@ -104,17 +104,9 @@ fn first_differences_from_a_long_symbol(rt: HostRuntime) -> Result<(), Fail> {
     let block = Block::new(2, 1100, &rows);
     symbol_into(&block, 2, &mut symbol);
     same(&rt, &first_difference(&block, 2, &symbol), &None, 30);
-    for (row, at) in [
-        (31, 1099usize),
-        (32, 1024),
-        (33, 1023),
-        (34, 512),
-        (35, 511),
-        (36, 1),
-        (37, 0),
-    ] {
+    for at in [1099usize, 1024, 1023, 512, 511, 1, 0] {
         symbol[at] ^= 1;
-        same(&rt, &first_difference(&block, 2, &symbol), &Some(at), row);
+        same(&rt, &first_difference(&block, 2, &symbol), &Some(at), 31);
     }
     Ok(())
 }
