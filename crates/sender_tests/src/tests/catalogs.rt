@@ -1,16 +1,13 @@
 //! Catalogs: what they list, and the first bad line.
 
 use super::same::same;
-use sender_plan::{CatalogFault, CatalogInstance, CatalogItem, read_catalog};
+use sender_plan::{CatalogFault, CatalogItem, read_catalog};
 use std::alloc::{AllocError, Global};
 use std::process::Abort;
 use std::test::Fail;
 
 /// The name of a file, its location and its type.
 type Item<'a> = (&'a str, &'a str, Option<&'a str>);
-
-/// The number of an instance and its files.
-type Instance<'a> = (u32, &'a [Item<'a>]);
 
 fn parts(item: &CatalogItem) -> Item<'_> {
     let kind = match &item.kind {
@@ -20,57 +17,72 @@ fn parts(item: &CatalogItem) -> Item<'_> {
     (item.name.as_str(), item.location.as_str(), kind)
 }
 
-/// Asserts the number of an instance and its files.
-fn check_instance(rt: &impl Abort, instance: &CatalogInstance, wanted: &Instance<'_>, row: u32) {
-    same(rt, &instance.number, &wanted.0, row);
-    same(rt, &instance.items.len(), &wanted.1.len(), row);
-    for (item, expected) in instance.items.iter().zip(wanted.1) {
-        same(rt, &parts(item), expected, row);
-    }
-}
-
-/// Asserts what a text lists.
+/// Asserts what a text lists: each instance by its number and how many files it has, and all files in order.
 fn check_listed(
     rt: &impl Abort,
     alloc: Global,
     text: &[u8],
-    wanted: &[Instance<'_>],
+    instances: &[(u32, usize)],
+    files: &[Item<'_>],
     row: u32,
 ) -> Result<(), Fail> {
     let catalog = read_catalog(alloc, text)?;
-    same(rt, &catalog.as_slice().len(), &wanted.len(), row);
-    for (instance, expected) in catalog.as_slice().iter().zip(wanted) {
-        check_instance(rt, instance, expected, row);
+    let mut left = files.iter();
+    same(rt, &catalog.as_slice().len(), &instances.len(), row);
+    for (instance, wanted) in catalog.as_slice().iter().zip(instances) {
+        same(rt, &(instance.number, instance.items.len()), wanted, row);
+        for item in &instance.items {
+            same(rt, &Some(&parts(item)), &left.next(), row);
+        }
     }
+    same(rt, &left.next().is_none(), &true, row);
     Ok(())
 }
 
 #[test]
 fn instances_and_files(rt: HostRuntime) -> Result<(), Fail> {
-    let cases: [(u32, &[u8], &[Instance<'_>]); 8] = [
-        (1, b"", &[]),
-        (2, b"instance\t1\n", &[(1, &[])]),
-        (3, b"instance\t1\nfile\tf\ta\n", &[(1, &[("f", "a", None)])]),
+    let cases: [(u32, &[u8], &[(u32, usize)], &[Item<'_>]); 8] = [
+        (1, b"", &[], &[]),
+        (2, b"instance\t1\n", &[(1, 0)], &[]),
+        (
+            3,
+            b"instance\t1\nfile\tf\ta\n",
+            &[(1, 1)],
+            &[("f", "a", None)],
+        ),
         (
             4,
             b"instance\t1\nfile\tf\ta\ttext/html\ninstance\t7\nfile\tg h\tb\nfile\tf\ta\n",
+            &[(1, 1), (7, 2)],
             &[
-                (1, &[("f", "a", Some("text/html"))]),
-                (7, &[("g h", "b", None), ("f", "a", None)]),
+                ("f", "a", Some("text/html")),
+                ("g h", "b", None),
+                ("f", "a", None),
             ],
         ),
         // Lines and their ends.
         (
             5,
             b"instance\t1\r\nfile\tf\ta\r\n",
-            &[(1, &[("f", "a", None)])],
+            &[(1, 1)],
+            &[("f", "a", None)],
         ),
-        (6, b"instance\t1\nfile\tf\ta", &[(1, &[("f", "a", None)])]),
-        (7, b"\n\r\n# two\ninstance\t1\n#file\tf\ta\n", &[(1, &[])]),
-        (8, b"instance\t0004294967295\n", &[(4294967295, &[])]),
+        (
+            6,
+            b"instance\t1\nfile\tf\ta",
+            &[(1, 1)],
+            &[("f", "a", None)],
+        ),
+        (
+            7,
+            b"\n\r\n# two\ninstance\t1\n#file\tf\ta\n",
+            &[(1, 0)],
+            &[],
+        ),
+        (8, b"instance\t0004294967295\n", &[(4294967295, 0)], &[]),
     ];
-    for (row, text, wanted) in cases {
-        check_listed(&rt, rt.alloc(), text, wanted, row)?;
+    for (row, text, instances, files) in cases {
+        check_listed(&rt, rt.alloc(), text, instances, files, row)?;
     }
     Ok(())
 }

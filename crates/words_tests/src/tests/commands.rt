@@ -1,10 +1,12 @@
 //! Commands with their values, words that are no command, and addresses.
 
-use super::telling::{Told, check_told, check_usage, six};
+use super::telling::{Kind, Told, add, check_told, check_usage, six, words_of};
+use meta_text::Label;
+use std::alloc::{AllocError, Global};
 use std::test::Fail;
 
-/// A command's word, its catalog and its address.
-type Head = (&'static str, &'static str, Option<[u8; 4]>);
+/// Which command it is, its catalog and its address.
+type Head = (Kind, &'static str, Option<[u8; 4]>);
 
 #[test]
 fn commands_with_their_values(rt: HostRuntime) -> Result<(), Fail> {
@@ -12,19 +14,19 @@ fn commands_with_their_values(rt: HostRuntime) -> Result<(), Fail> {
         (
             1,
             &["replay"],
-            ("replay", "", None),
+            (Kind::Replay, "", None),
             &[Some(1), Some(67108864), Some(4294967295)],
         ),
         (
             2,
             &["replay", "--most", "2", "--tsi", "0", "--budget", "4096"],
-            ("replay", "", None),
+            (Kind::Replay, "", None),
             &[Some(0), Some(4096), Some(2)],
         ),
         (
             3,
             &["recv", "--addr", "127.0.0.1", "--port", "9", "--count", "3"],
-            ("recv", "", Some([127, 0, 0, 1])),
+            (Kind::Recv, "", Some([127, 0, 0, 1])),
             &[Some(1), Some(67108864), Some(9), Some(3)],
         ),
         (
@@ -42,13 +44,13 @@ fn commands_with_their_values(rt: HostRuntime) -> Result<(), Fail> {
                 "--tsi",
                 "7",
             ],
-            ("recv", "", Some([127, 0, 0, 1])),
+            (Kind::Recv, "", Some([127, 0, 0, 1])),
             &[Some(7), Some(5000), Some(9), Some(3)],
         ),
         (
             5,
             &["send", "--catalog", "c"],
-            ("send", "c", None),
+            (Kind::Send, "c", None),
             &[None, Some(1024), Some(64), Some(128), Some(1), Some(1)],
         ),
         (
@@ -64,7 +66,7 @@ fn commands_with_their_values(rt: HostRuntime) -> Result<(), Fail> {
                 "--maxn",
                 "3",
             ],
-            ("send", "c", None),
+            (Kind::Send, "c", None),
             &[None, Some(25), Some(2), Some(3), Some(1), Some(1)],
         ),
         (
@@ -82,26 +84,26 @@ fn commands_with_their_values(rt: HostRuntime) -> Result<(), Fail> {
                 "--catalog",
                 "\u{E9}t\u{E9}=1",
             ],
-            ("send", "\u{E9}t\u{E9}=1", Some([255, 1, 2, 3])),
+            (Kind::Send, "\u{E9}t\u{E9}=1", Some([255, 1, 2, 3])),
             &[Some(1), Some(1024), Some(64), Some(128), Some(4), Some(5)],
         ),
-        (8, &["dump"], ("dump", "", None), &[Some(4294967295)]),
+        (8, &["dump"], (Kind::Dump, "", None), &[Some(4294967295)]),
         (
             9,
             &["dump", "--most", "00000000000000000007"],
-            ("dump", "", None),
+            (Kind::Dump, "", None),
             &[Some(7)],
         ),
         (
             10,
             &["drill", "--start", "18446744073709551615"],
-            ("drill", "", None),
+            (Kind::Drill, "", None),
             &[Some(18446744073709551615)],
         ),
         (
             11,
             &["listen"],
-            ("listen", "", None),
+            (Kind::Listen, "", None),
             &[
                 Some(1),
                 Some(67108864),
@@ -114,7 +116,7 @@ fn commands_with_their_values(rt: HostRuntime) -> Result<(), Fail> {
         (
             12,
             &["listen", "--readers", "16", "--most", "3"],
-            ("listen", "", None),
+            (Kind::Listen, "", None),
             &[Some(1), Some(67108864), Some(3), None, None, Some(16)],
         ),
         (
@@ -122,7 +124,7 @@ fn commands_with_their_values(rt: HostRuntime) -> Result<(), Fail> {
             &[
                 "listen", "--count", "2", "--addr", "0.0.0.0", "--most", "3", "--port", "65535",
             ],
-            ("listen", "", Some([0, 0, 0, 0])),
+            (Kind::Listen, "", Some([0, 0, 0, 0])),
             &[
                 Some(1),
                 Some(67108864),
@@ -135,19 +137,19 @@ fn commands_with_their_values(rt: HostRuntime) -> Result<(), Fail> {
     ];
     for (row, words, head, numbers) in cases {
         let wanted = Told {
-            word: head.0,
-            catalog: head.1,
+            kind: head.0,
             addr: head.2,
             numbers: six(numbers),
         };
-        check_told(&rt, rt.alloc(), &[words], &wanted, row)?;
+        let words = words_of(rt.alloc(), words)?;
+        check_told(&rt, rt.alloc(), &words, wanted, head.1, row)?;
     }
     Ok(())
 }
 
 #[test]
 fn words_that_are_no_command(rt: HostRuntime) -> Result<(), Fail> {
-    check_usage(&rt, rt.alloc(), &[], 99)?;
+    check_usage(&rt, rt.alloc(), &[], 99);
     let cases: [(u32, &[&str]); 84] = [
         // The command's word.
         (100, &[""]),
@@ -275,13 +277,17 @@ fn words_that_are_no_command(rt: HostRuntime) -> Result<(), Fail> {
         ),
     ];
     for (row, words) in cases {
-        check_usage(&rt, rt.alloc(), &[words], row)?;
+        check_usage(&rt, rt.alloc(), &words_of(rt.alloc(), words)?, row);
     }
     Ok(())
 }
 
-/// The words in front of an address.
-const BEFORE: &[&str] = &["recv", "--port", "1", "--count", "1", "--addr"];
+/// The words of a line with this address.
+fn line_with(alloc: Global, address: &str) -> Result<Vec<Label>, AllocError> {
+    let mut words = words_of(alloc, &["recv", "--port", "1", "--count", "1", "--addr"])?;
+    add(&mut words, address)?;
+    Ok(words)
+}
 
 #[test]
 fn addresses(rt: HostRuntime) -> Result<(), Fail> {
@@ -292,12 +298,12 @@ fn addresses(rt: HostRuntime) -> Result<(), Fail> {
     ];
     for (row, address, addr) in taken {
         let wanted = Told {
-            word: "recv",
-            catalog: "",
+            kind: Kind::Recv,
             addr: Some(addr),
             numbers: six(&[Some(1), Some(67108864), Some(1), Some(1)]),
         };
-        check_told(&rt, rt.alloc(), &[BEFORE, &[address]], &wanted, row)?;
+        let words = line_with(rt.alloc(), address)?;
+        check_told(&rt, rt.alloc(), &words, wanted, "", row)?;
     }
     let refused = [
         (310, "1"),
@@ -324,7 +330,7 @@ fn addresses(rt: HostRuntime) -> Result<(), Fail> {
         (331, "1.1.1.1:1"),
     ];
     for (row, address) in refused {
-        check_usage(&rt, rt.alloc(), &[BEFORE, &[address]], row)?;
+        check_usage(&rt, rt.alloc(), &line_with(rt.alloc(), address)?, row);
     }
     Ok(())
 }

@@ -7,11 +7,21 @@ use std::alloc::{AllocError, Global};
 use std::process::Abort;
 use std::test::Fail;
 
-/// A command's word, its catalog, its address, and its other values in the order of its fields.
+/// Which command it is.
 #[derive(Clone, Copy, PartialEq, Debug)]
-pub struct Told<'a> {
-    pub word: &'a str,
-    pub catalog: &'a str,
+pub enum Kind {
+    Replay,
+    Recv,
+    Send,
+    Dump,
+    Drill,
+    Listen,
+}
+
+/// Which command it is, its address, and its other values in the order of its fields, without a catalog's name.
+#[derive(Clone, Copy, PartialEq, Debug)]
+pub struct Told {
+    pub kind: Kind,
     pub addr: Option<[u8; 4]>,
     pub numbers: [Option<u64>; 6],
 }
@@ -26,11 +36,10 @@ pub fn six(numbers: &[Option<u64>]) -> [Option<u64>; 6] {
 }
 
 /// What a command says.
-pub fn values_of(command: &Command) -> Told<'_> {
+pub fn values_of(command: &Command) -> Told {
     match command {
         Command::Replay { tsi, budget, most } => Told {
-            word: "replay",
-            catalog: "",
+            kind: Kind::Replay,
             addr: None,
             numbers: six(&[Some(*tsi), Some(*budget), Some(*most)]),
         },
@@ -41,13 +50,12 @@ pub fn values_of(command: &Command) -> Told<'_> {
             port,
             count,
         } => Told {
-            word: "recv",
-            catalog: "",
+            kind: Kind::Recv,
             addr: Some(*addr),
             numbers: six(&[Some(*tsi), Some(*budget), Some(*port), Some(*count)]),
         },
         Command::Send {
-            catalog,
+            catalog: _,
             addr,
             port,
             symbol,
@@ -56,8 +64,7 @@ pub fn values_of(command: &Command) -> Told<'_> {
             cycles,
             tsi,
         } => Told {
-            word: "send",
-            catalog: catalog.as_str(),
+            kind: Kind::Send,
             addr: *addr,
             numbers: [
                 *port,
@@ -69,14 +76,12 @@ pub fn values_of(command: &Command) -> Told<'_> {
             ],
         },
         Command::Dump { most } => Told {
-            word: "dump",
-            catalog: "",
+            kind: Kind::Dump,
             addr: None,
             numbers: six(&[Some(*most)]),
         },
         Command::Drill { start } => Told {
-            word: "drill",
-            catalog: "",
+            kind: Kind::Drill,
             addr: None,
             numbers: six(&[Some(*start)]),
         },
@@ -89,8 +94,7 @@ pub fn values_of(command: &Command) -> Told<'_> {
             count,
             readers,
         } => Told {
-            word: "listen",
-            catalog: "",
+            kind: Kind::Listen,
             addr: *addr,
             numbers: [
                 Some(*tsi),
@@ -104,13 +108,26 @@ pub fn values_of(command: &Command) -> Told<'_> {
     }
 }
 
-/// The words of these parts, one part after the other.
-pub fn words_of(alloc: Global, parts: &[&[&str]]) -> Result<Vec<Label>, AllocError> {
+/// The name of a command's catalog; empty where it has none.
+pub fn catalog_of(command: &Command) -> &str {
+    match command {
+        Command::Send { catalog, .. } => catalog.as_str(),
+        _ => "",
+    }
+}
+
+/// One word more.
+pub fn add(words: &mut Vec<Label>, word: &str) -> Result<(), AllocError> {
+    let alloc = *words.allocator();
+    words.push(Label::new(String::from_str(alloc, word)?))?;
+    Ok(())
+}
+
+/// These words, as they are handed over.
+pub fn words_of(alloc: Global, list: &[&str]) -> Result<Vec<Label>, AllocError> {
     let mut words = Vec::new(alloc);
-    for part in parts {
-        for word in *part {
-            words.push(Label::new(String::from_str(alloc, word)?))?;
-        }
+    for word in list {
+        add(&mut words, word)?;
     }
     Ok(words)
 }
@@ -119,25 +136,23 @@ pub fn words_of(alloc: Global, parts: &[&[&str]]) -> Result<Vec<Label>, AllocErr
 pub fn check_told(
     rt: &impl Abort,
     alloc: Global,
-    parts: &[&[&str]],
-    wanted: &Told<'_>,
+    words: &[Label],
+    wanted: Told,
+    catalog: &str,
     row: u32,
 ) -> Result<(), Fail> {
-    let words = words_of(alloc, parts)?;
-    let command = read_words(alloc, words.as_slice()).ok().ok_or("a command")?;
-    same(rt, &values_of(&command), wanted, row);
+    let command = read_words(alloc, words).ok().ok_or("a command")?;
+    same(rt, &values_of(&command), &wanted, row);
+    same(rt, &catalog_of(&command), &catalog, row);
     Ok(())
 }
 
 /// Asserts that the words are no command.
-pub fn check_usage(
-    rt: &impl Abort,
-    alloc: Global,
-    parts: &[&[&str]],
-    row: u32,
-) -> Result<(), AllocError> {
-    let words = words_of(alloc, parts)?;
-    let fault = read_words(alloc, words.as_slice()).err();
-    same(rt, &fault, &Some(WordFault::Usage), row);
-    Ok(())
+pub fn check_usage(rt: &impl Abort, alloc: Global, words: &[Label], row: u32) {
+    same(
+        rt,
+        &read_words(alloc, words).err(),
+        &Some(WordFault::Usage),
+        row,
+    );
 }
