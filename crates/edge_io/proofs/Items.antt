@@ -77,9 +77,6 @@ has_no_item text n = false_from_ne_true _ (λ h. n (first_datagram text) (after_
 length_after : (bytes : List ℕ) → length (after_item bytes) ≡ length bytes - (2 + stated bytes)
 length_after bytes = length-drop (2 + stated bytes) bytes
 
-no_item_in_none : has_item [] ≡ false
-no_item_in_none = refl
-
 -- as many items as bytes are enough, and more change nothing
 items_enough : (m n : ℕ) (bytes : List ℕ) → length bytes ≤ m → length bytes ≤ n → items_within m bytes ≡ items_within n bytes
 unfolding items_within

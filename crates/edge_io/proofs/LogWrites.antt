@@ -29,9 +29,6 @@ with_magic true text o = subst (IsLog (text ++ [])) (sym (log_datagrams text o.0
 connect_log : (begun : Bool) (text text' : List ℕ) → IsInOrder begun text → text' ≡ text ++ magic_due begun → IsLog text' (sent_on begun text)
 connect_log begun text text' o e = subst (λ t. IsLog t (sent_on begun text)) (sym e) (with_magic begun text o)
 
-pub connect_in_order : (begun : Bool) (text text' : List ℕ) → IsInOrder begun text → text' ≡ text ++ magic_due begun → IsInOrder true text'
-connect_in_order begun text text' o e = (sent_on begun text, connect_log begun text text' o e)
-
 pub connect_sends_none : (begun : Bool) (text text' : List ℕ) → IsInOrder begun text → text' ≡ text ++ magic_due begun → sent_on true text' ≡ sent_on begun text
 connect_sends_none begun text text' o e = log_datagrams text' (sent_on begun text) (connect_log begun text text' o e)
 

@@ -4,8 +4,6 @@ pub mod LogWriting
 pub mod MemShelves
 pub mod NamedFiles
 pub mod Nexts
-pub mod Pacing
-pub mod Placing
 pub mod Reads
 pub mod ShelfCalls
 pub mod Shelved

@@ -2,10 +2,8 @@
 //!
 //! Each kind is a trait. Its ghost members say what an object holds, where it tells that
 //! (`told`), and count its faults. Beside the traits stand forms in memory that fail at stated
-//! calls (`Mem..`), forms that never fail (`Sure..`), forms over real devices, which tell
-//! nothing, `LogReader`, which reads the datagrams of a packet log, and `LogWriter`, which writes
-//! them. `UdpDatagrams` and `UdpEmit` are datagrams over UDP, and the `Placed..` forms choose
-//! between both by the place of `connect`.
+//! calls (`Mem..`), forms that never fail (`Sure..`), `LogReader`, which reads the datagrams of a
+//! packet log, and `LogWriter`, which writes them.
 #![tactic(auto)]
 
 mod bytes;
@@ -13,14 +11,10 @@ mod calls;
 mod datagrams;
 mod emit;
 mod failed;
-mod failures;
 mod file_fault;
 mod files;
 mod fill;
 mod finished_instance;
-mod folder;
-mod folder_files;
-mod folder_shelf;
 pub mod laws;
 mod log_reader;
 mod log_writer;
@@ -31,11 +25,7 @@ mod mem_files;
 mod mem_shelf;
 mod mem_text;
 mod next;
-mod pace;
 mod place;
-mod placed_datagrams;
-mod placed_emit;
-mod reader_bytes;
 mod shelf;
 mod shelved_file;
 mod sure_bytes;
@@ -45,23 +35,16 @@ mod sure_files;
 mod sure_shelf;
 mod sure_text;
 mod text;
-mod tries;
 mod trouble;
-mod udp_datagrams;
-mod udp_emit;
-mod writer_text;
 
 pub use bytes::Bytes;
 pub use calls::Calls;
 pub use datagrams::Datagrams;
 pub use emit::Emit;
 pub use failed::Failed;
-pub use failures::Failures;
 pub use file_fault::FileFault;
 pub use files::Files;
 pub use finished_instance::FinishedInstance;
-pub use folder_files::FolderFiles;
-pub use folder_shelf::FolderShelf;
 pub use log_reader::LogReader;
 pub use log_writer::LogWriter;
 pub use mem_bytes::MemBytes;
@@ -71,11 +54,7 @@ pub use mem_files::MemFiles;
 pub use mem_shelf::MemShelf;
 pub use mem_text::MemText;
 pub use next::Next;
-pub use pace::Pace;
 pub use place::Place;
-pub use placed_datagrams::PlacedDatagrams;
-pub use placed_emit::PlacedEmit;
-pub use reader_bytes::ReaderBytes;
 pub use shelf::Shelf;
 pub use shelved_file::ShelvedFile;
 pub use sure_bytes::SureBytes;
@@ -86,9 +65,3 @@ pub use sure_shelf::SureShelf;
 pub use sure_text::SureText;
 pub use text::Text;
 pub use trouble::Trouble;
-pub use udp_datagrams::UdpDatagrams;
-pub use udp_emit::{DEFAULT_RATE, UdpEmit};
-pub use writer_text::WriterText;
-
-#[cfg(test)]
-mod tests;

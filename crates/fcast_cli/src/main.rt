@@ -10,9 +10,8 @@ use crate::event_text::EventText;
 use crate::rate::{RateFault, asked_rate};
 use crate::tell::{tell, tell_first};
 use crate::watchers::{heard_by, tell_heard};
-use edge_io::{
-    FolderFiles, FolderShelf, PlacedDatagrams, PlacedEmit, ReaderBytes, Text, Trouble, WriterText,
-};
+use edge_io::{Text, Trouble};
+use edge_real::{FolderFiles, FolderShelf, PlacedDatagrams, PlacedEmit, ReaderBytes, WriterText};
 use fcast_run::{Edge, Wide, run, run_listen};
 use meta_text::Label;
 use std::io::{BufReader, BufWriter, ErrorKind};

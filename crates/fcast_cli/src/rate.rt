@@ -1,6 +1,6 @@
 //! The rate at which datagrams are sent over UDP.
 
-use edge_io::DEFAULT_RATE;
+use edge_real::DEFAULT_RATE;
 use std::env;
 use std::env::VarError;
 use std::rt::Env;

@@ -1,3 +1,5 @@
+//! A watcher that counts the events.
+
 ghost use Rattle.std.specs.Prelude.{◌≡◌, ◌+◌, ◌-◌, ◌^◌, ◌≤◌, [], OnOk, OnErr, IsErr, IsErrOf};
 ghost use Rattle.edge_io.specs.Faults.{Rose, one_more};
 
@@ -7,9 +9,9 @@ use crate::{Event, Unheard, Watch};
 #[derive(Drop, Debug)]
 pub struct Counter {
     /// How many events it heard.
-    pub(crate) count: u64,
+    count: u64,
     /// How often it was deaf, up to the end of the type.
-    pub(crate) failed: u64,
+    failed: u64,
 }
 
 impl Counter {

@@ -1,3 +1,5 @@
+//! What a run tells of each datagram.
+
 /// What became of one datagram, or that another instance is installed.
 #[derive(Clone, Copy, PartialEq, Eq, Debug)]
 pub enum Event {

@@ -12,8 +12,6 @@ mod event;
 mod event_line;
 mod lines;
 mod telling;
-#[cfg(test)]
-mod tests;
 mod watch;
 mod write_event;
 

@@ -15,9 +15,9 @@ pub struct Lines<T: Text + Drop> {
     /// The text.
     pub text: T,
     /// How many events it heard.
-    pub(crate) count: u64,
+    count: u64,
     /// How often it did not hear, up to the end of the type.
-    pub(crate) failed: u64,
+    failed: u64,
 }
 
 impl<T: Text + Drop> Lines<T> {

@@ -1,3 +1,5 @@
+//! Who is told each event of a run.
+
 ghost use Rattle.std.specs.Prelude.{◌≡◌, ◌+◌, ◌-◌, ◌^◌, ◌≤◌, ℕ, List, [], ◌∷◌, ◌++◌, OnOk, OnErr, IsErrOf, None, slice_get};
 ghost use Rattle.edge_io.specs.Faults.{Rose};
 

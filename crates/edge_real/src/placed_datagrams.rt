@@ -1,0 +1,122 @@
+//! Datagrams from a packet log or from a UDP socket.
+
+ghost use Rattle.std.specs.Prelude.{◌≡◌, ◌≢◌, ◌≤◌, [], Option, Some, None, length, OnOk, OnErr, IsErr};
+ghost use Rattle.edge_io.specs.Faults.{Rose, one_more};
+ghost use Rattle.edge_io.specs.Nexts.{IsWithin};
+ghost use Rattle.edge_real.specs.Placing.{IsUdp};
+
+use crate::UdpDatagrams;
+use edge_io::{Bytes, Datagrams, Failed, LogReader, Next, Place};
+use std::net::Net;
+
+/// The datagrams of the place that was connected: of a packet log, read from a source of bytes, or
+/// those that come to a UDP socket. Nothing is told of them.
+///
+/// Until a `connect` answered `Ok` it reads the log. A `connect` at the log closes the socket, and
+/// the log goes on where it was left. A `connect` that fails changes nothing but the count.
+#[derive(Drop)]
+pub struct PlacedDatagrams<B: Bytes, N: Net + Drop> {
+    /// The log.
+    pub log: LogReader<B>,
+    /// The socket.
+    pub udp: UdpDatagrams<N>,
+    /// The place of the last `connect` that answered `Ok`.
+    pub connected: Option<Place>,
+    /// How many calls failed, up to `u64::MAX`.
+    pub failures: u64,
+}
+
+impl<B: Bytes, N: Net + Drop> PlacedDatagrams<B, N> {
+    /// The datagrams of this log, or of a socket of this network.
+    pub fn new(source: B, net: N) -> PlacedDatagrams<B, N>
+        ensures source { result.log.source ≡ source }
+        ensures connected { result.connected ≡ None }
+        ensures failures { result.failures ≡ 0 }
+    {
+        PlacedDatagrams {
+            log: LogReader::new(source),
+            udp: UdpDatagrams::new(net),
+            connected: None,
+            failures: 0,
+        }
+    }
+
+    /// Connects at the place. The count stays.
+    fn connect_at(&mut self, place: &Place) -> Result<(), Failed>
+        ensures ok { OnOk result (self.new.connected ≡ Some place.now) }
+        ensures err { OnErr result (self.new.connected ≡ self.old.connected) }
+        ensures unread { IsUdp (Some place.now) → self.new.log ≡ self.old.log }
+        ensures count { self.new.failures ≡ self.old.failures }
+    {
+        match place {
+            Place::Log => {
+                self.log.connect(place)?;
+                self.udp.close();
+            }
+            Place::Udp { .. } => self.udp.connect(place)?,
+        }
+        self.connected = Some(*place);
+        Ok(())
+    }
+
+    /// Asks the place for the next datagram. The count stays.
+    fn next_there(&mut self, buffer: &mut [u8]) -> Next
+        requires { 65535 ≤ length buffer.old }
+        ensures within { IsWithin result buffer.new }
+        ensures place { self.new.connected ≡ self.old.connected }
+        ensures unread { IsUdp self.old.connected → self.new.log ≡ self.old.log }
+        ensures unheard { self.old.connected ≡ Some Place.Log → self.new.udp ≡ self.old.udp }
+        ensures count { self.new.failures ≡ self.old.failures }
+    {
+        match self.connected {
+            Some(Place::Udp { .. }) => self.udp.next(buffer),
+            Some(Place::Log) | None => self.log.next(buffer),
+        }
+    }
+}
+
+impl<B: Bytes, N: Net + Drop> Datagrams for PlacedDatagrams<B, N> {
+    ghost told = { λ _. ⊥ };
+
+    ghost left = { λ _. [] };
+
+    ghost torn = { λ _. None };
+
+    ghost connected = { λ s. s.connected };
+
+    ghost faults = { λ s. s.failures };
+
+    fn connect(&mut self, place: &Place) -> Result<(), Failed>
+        ensures ok { OnOk result (self.new.connected ≡ Some place.now) }
+        ensures err { OnErr result (self.new.connected ≡ self.old.connected) }
+        ensures unread { IsUdp (Some place.now) → self.new.log ≡ self.old.log }
+        ensures fault { IsErr result → self.new.failures ≡ one_more self.old.failures }
+        ensures quiet { OnOk result (self.new.failures ≡ self.old.failures) }
+        ensures rose { IsErr result → Rose self.old.failures self.new.failures }
+        ensures grows { self.old.failures ≤ self.new.failures }
+    {
+        let connected = self.connect_at(place);
+        if connected.is_err() {
+            self.failures = self.failures.saturating_add(1);
+        }
+        connected
+    }
+
+    fn next(&mut self, buffer: &mut [u8]) -> Next
+        requires { 65535 ≤ length buffer.old }
+        ensures within { IsWithin result buffer.new }
+        ensures place { self.new.connected ≡ self.old.connected }
+        ensures unread { IsUdp self.old.connected → self.new.log ≡ self.old.log }
+        ensures unheard { self.old.connected ≡ Some Place.Log → self.new.udp ≡ self.old.udp }
+        ensures fault { result ≡ Next.Failed → self.new.failures ≡ one_more self.old.failures }
+        ensures quiet { result ≢ Next.Failed → self.new.failures ≡ self.old.failures }
+        ensures rose { result ≡ Next.Failed → Rose self.old.failures self.new.failures }
+        ensures grows { self.old.failures ≤ self.new.failures }
+    {
+        let answer = self.next_there(buffer);
+        if answer == Next::Failed {
+            self.failures = self.failures.saturating_add(1);
+        }
+        answer
+    }
+}
