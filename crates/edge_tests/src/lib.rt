@@ -1,4 +1,4 @@
-//! Tests of `edge_io` and `watch_list`. There is nothing here but tests.
+//! Tests of `edge_io`. There is nothing here but tests.
 #![tactic(auto)]
 
 #[cfg(test)]

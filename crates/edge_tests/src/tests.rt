@@ -1,11 +1,8 @@
-//! The forms in memory, the packet log both ways, and the watchers.
+//! The forms in memory, and the packet log both ways.
 
-mod lines;
 mod log_reader;
 mod log_writer;
 mod mem_files;
 mod mem_forms;
 mod same;
-mod telling;
 mod texts;
-mod watchers;

@@ -1,0 +1,5 @@
+//! Tests of `watch_list`. There is nothing here but tests.
+#![tactic(auto)]
+
+#[cfg(test)]
+mod tests;
