@@ -158,7 +158,11 @@ fn manifest_that_is_a_link_is_removed_as_one(rt: HostRuntime) -> Result<(), Fail
 }
 
 /// Checks that `begin` fails, and why, and that it is counted once.
-fn refuse(rt: &impl Abort, shelf: &mut FolderShelf<HostRuntime>, row: u32) {
+fn refuse<R: Files + AllocGlobal + Clone + Drop>(
+    rt: &impl Abort,
+    shelf: &mut FolderShelf<R>,
+    row: u32,
+) {
     shelf.failures = Failures::none();
     same(rt, &shelf.begin(1), &FAILED, row);
     let kind = Some(ErrorKind::NotADirectory);
