@@ -15,6 +15,3 @@ mod store;
 
 pub use kept::Kept;
 pub use store::Store;
-
-#[cfg(test)]
-mod tests;

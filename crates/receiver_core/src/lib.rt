@@ -16,6 +16,3 @@ pub use object_store::Kept;
 pub use receiver::Receiver;
 pub use standing::Standing;
 pub use taken::Taken;
-
-#[cfg(test)]
-mod tests;

@@ -10,7 +10,7 @@ pub const EMPTY_INSTANCE: [u8; 60] = *b"\x10\xA0\x07\x05\0\0\0\0\0\0\0\x01\0\0\0
 
 /// An object of session 1: its identifier, its length, the length of its symbols, and the most source and encoding
 /// symbols of a block.
-#[derive(Drop)]
+#[derive(Clone, Copy)]
 pub struct Block {
     pub toi: u32,
     length: u32,
@@ -84,32 +84,26 @@ fn padding(size: usize) -> &'static [u8] {
 }
 
 /// A compound object whose checksum covers all of it.
-fn compound(alloc: Global, flags: u8, metadata: &str, body: &[u8]) -> Result<Vec<u8>, AllocError> {
+fn compound(alloc: Global, flags: u8, metadata: &[u8], body: &[u8]) -> Result<Vec<u8>, AllocError> {
     let size = metadata.len().saturating_add(8);
     let header = u32::try_from(size).unwrap_or(u32::MAX).to_be_bytes();
-    let mut rest = Vec::from_slice(alloc, &header)?;
-    rest.extend_from_slice(metadata.as_bytes())?;
-    rest.extend_from_slice(padding(size))?;
-    rest.extend_from_slice(body)?;
-    let unsummed = joined(alloc, &[&[flags, 0], rest.as_slice()])?;
+    let zeros = padding(size);
+    let unsummed = joined(alloc, &[&[flags, 0, 0, 0], &header, metadata, zeros, body])?;
     let sum = checksum(unsummed.as_slice()).to_be_bytes();
-    joined(alloc, &[&[flags, 0], &sum, rest.as_slice()])
+    joined(alloc, &[&[flags, 0], &sum, &header, metadata, zeros, body])
 }
 
 /// The file with location `a` and the body `hi`.
 pub fn file(alloc: Global) -> Result<Vec<u8>, AllocError> {
-    compound(
-        alloc,
-        2,
-        "Content-Location: a\r\nContent-Length: 2\r\n",
-        b"hi",
-    )
+    let metadata = b"Content-Location: a\r\nContent-Length: 2\r\n";
+    compound(alloc, 2, metadata, b"hi")
 }
 
-/// The descriptor of the instance with this number, which lists these identifiers.
-pub fn descriptor(alloc: Global, number: u32, list: &str) -> Result<Vec<u8>, AllocError> {
-    let metadata = format!(in alloc; "Fcast-CID-ID: {number}\r\n")?;
-    compound(alloc, 3, metadata.as_str(), list.as_bytes())
+/// The descriptor of the instance with this number of one digit, which lists these identifiers.
+pub fn descriptor(alloc: Global, number: u8, list: &str) -> Result<Vec<u8>, AllocError> {
+    let mut metadata = *b"Fcast-CID-ID: 0\r\n";
+    metadata[14] = metadata[14].wrapping_add(number);
+    compound(alloc, 3, &metadata, list.as_bytes())
 }
 
 /// These bytes with another one at a place.

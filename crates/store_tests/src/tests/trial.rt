@@ -2,8 +2,9 @@
 
 ghost use Rattle.std.specs.Prelude.{◌≤◌, ◌^◌};
 
-use crate::{Kept, Receiver, Standing, Taken};
+use super::same::same;
 use carousel_cid::Instance;
+use receiver_core::{Kept, Receiver, Standing, Taken};
 use rs_solve::Steps;
 use std::alloc::{AllocError, Global};
 use std::process::Abort;
@@ -40,12 +41,22 @@ impl Trial {
         })
     }
 
-    pub fn take(&mut self, datagram: &[u8]) -> Result<Taken, AllocError> {
-        self.receiver.take(datagram, &mut self.steps)
+    /// What becomes of a datagram; none without memory.
+    pub fn take(&mut self, datagram: &[u8]) -> Option<Taken> {
+        self.receiver.take(datagram, &mut self.steps).ok()
     }
 
-    pub fn settle(&mut self) -> Result<Option<u32>, AllocError> {
-        self.receiver.settle()
+    /// What becomes of a datagram that was made; none without memory.
+    pub fn take_made(&mut self, made: &Result<Vec<u8>, AllocError>) -> Option<Taken> {
+        match made {
+            Ok(datagram) => self.take(datagram.as_slice()),
+            Err(_) => None,
+        }
+    }
+
+    /// What a settling answers; none without memory.
+    pub fn settle(&mut self) -> Option<Option<u32>> {
+        self.receiver.settle().ok()
     }
 
     pub fn standing(&self, toi: u32) -> Standing {
@@ -58,7 +69,10 @@ impl Trial {
 
     /// The number and the descriptor's object of the installed instance.
     pub fn installed(&self) -> Option<(u32, u128)> {
-        self.instance().map(|i| (i.number, i.descriptor_toi))
+        match self.instance() {
+            Some(instance) => Some((instance.number, instance.descriptor_toi)),
+            None => None,
+        }
     }
 
     /// The byte count of what is held.
@@ -96,21 +110,28 @@ pub fn symbol_of(toi: u32, esi: u8, kept: Kept) -> Taken {
     }
 }
 
-/// Takes a datagram, of which this is wanted.
+/// Takes a datagram that was made, of which this is wanted.
 pub fn takes(
     rt: &impl Abort,
     trial: &mut Trial,
-    datagram: &[u8],
+    made: &Result<Vec<u8>, AllocError>,
     wanted: Taken,
-) -> Result<(), AllocError> {
-    let taken = trial.take(datagram)?;
-    assert_eq!(rt; taken, wanted, "of {datagram:?}");
-    Ok(())
+    row: u32,
+) {
+    same(rt, &trial.take_made(made), &Some(wanted), row);
 }
 
 /// Settles, of which this is wanted.
-pub fn settles(rt: &impl Abort, trial: &mut Trial, wanted: Option<u32>) -> Result<(), AllocError> {
-    let number = trial.settle()?;
-    assert_eq!(rt; number, wanted);
-    Ok(())
+pub fn settles(rt: &impl Abort, trial: &mut Trial, wanted: Option<u32>, row: u32) {
+    same(rt, &trial.settle(), &Some(wanted), row);
+}
+
+/// An object stands so.
+pub fn stands(rt: &impl Abort, trial: &Trial, toi: u32, wanted: Standing, row: u32) {
+    same(rt, &trial.standing(toi), &wanted, row);
+}
+
+/// This instance is installed, told by its number and its descriptor's object.
+pub fn has(rt: &impl Abort, trial: &Trial, wanted: Option<(u32, u128)>, row: u32) {
+    same(rt, &trial.installed(), &wanted, row);
 }

@@ -1,3 +1,0 @@
-mod counts;
-mod keeping;
-mod symbols;
