@@ -3,9 +3,9 @@ use Rattle.std.proofs.Common.{◌≡◌, ℕ, ◌+◌, ◌-◌, ◌^◌, min, Li
 use Rattle.std.specs.Prelude.{Result, Ok, Err, OnOk}
 use Rattle.std.proofs.lemmas.List.{take_all}
 use Rattle.carousel_cid.specs.Instances.{Shown}
-use Rattle.object_store.specs.Held.{Held}
-use Rattle.object_store.specs.Verdict.{held_after, steps_of}
-use Rattle.receiver_core.specs.Best.{installed_after}
+use Rattle.held_packets.specs.Held.{Held}
+use Rattle.held_packets.specs.Verdict.{held_after, steps_of}
+use Rattle.receiver_core.specs.BestOf.{installed_after}
 use Rattle.receiver_core.specs.Classes.{packets_of, held_with, steps_with}
 use Rattle.receiver_core.specs.Receiver.{Receiver}
 use Rattle.fcast_run.specs.Drill.{HoldsPart, sent, delivered, deliveries, after_bodies, summed, summary, installed_of, summary_status, summary_lines, drilled}

@@ -16,9 +16,9 @@ use Rattle.alc_packet.specs.declared.datagram.Datagram.TheVariants as datagrams
 use Rattle.alc_packet.specs.declared.refusal.Refusal.{Refusal}
 use Rattle.carousel_cid.specs.Instances.{Shown}
 use Rattle.carousel_cid.specs.declared.file_of.FileOf.{FileOf}
-use Rattle.object_store.specs.Held.{Held}
-use Rattle.object_store.specs.Verdict.{step, verdict}
-use Rattle.receiver_core.specs.Best.{best}
+use Rattle.held_packets.specs.Held.{Held}
+use Rattle.held_packets.specs.Verdict.{step, verdict}
+use Rattle.receiver_core.specs.BestOf.{best}
 use Rattle.receiver_core.specs.Classes.{taken_of, taken_reply, packet_under, packets_of, held_with}
 use Rattle.receiver_core.specs.Receiver.{Announces}
 use Rattle.receiver_core.specs.declared.taken.Taken.{Taken}

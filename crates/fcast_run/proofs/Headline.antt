@@ -3,13 +3,14 @@ use Rattle.std.proofs.Common.{◌≡◌, ℕ, true, false, List, [], ◌∷◌, 
 use Rattle.std.specs.Prelude.{◌⊎◌}
 use Rattle.std.specs.List.{All}
 use Rattle.std.proofs.lemmas.List.{append-nil}
-use Rattle.object_store.specs.Session.{Session, IsSession, IsOf, AreOf}
-use Rattle.object_store.specs.Verdict.{held_after}
-use Rattle.object_store.specs.KeptSet.{drops}
-use Rattle.object_store.proofs.Public.{whole_is_sent}
+use Rattle.held_packets.specs.Session.{Session, IsSession, IsOf, AreOf}
+use Rattle.held_packets.specs.Verdict.{held_after}
+use Rattle.held_packets.specs.KeptSet.{drops}
+use Rattle.held_packets.proofs.Public.{whole_is_sent}
 use Rattle.carousel_cid.specs.Instances.{Shown}
 use Rattle.carousel_cid.specs.declared.file_of.FileOf.{FileOf}
-use Rattle.receiver_core.specs.Best.{Objects, IsBestOf, installed_after}
+use Rattle.receiver_core.specs.Best.{Objects, IsBestOf}
+use Rattle.receiver_core.specs.BestOf.{installed_after}
 use Rattle.receiver_core.specs.Classes.{packets_of}
 use Rattle.edge_io.specs.Shelved.{Shelved, with_file}
 use Rattle.edge_io.specs.ShelfCalls.{Begin, Finish, after, after_call}

@@ -11,13 +11,14 @@ use Rattle.carousel_cid.specs.Instances.{Shown, toi_of}
 use Rattle.carousel_cid.specs.Kinds.{kind_of_object}
 use Rattle.carousel_cid.specs.declared.file_of.FileOf.{FileOf}
 use Rattle.carousel_cid.specs.declared.kind.Kind.TheVariants as kinds
-use Rattle.object_store.specs.Held.{Held}
-use Rattle.object_store.specs.Ready.{is_ready}
-use Rattle.object_store.specs.Verdict.{held_after}
-use Rattle.object_store.specs.KeptSet.{kept, gathered, set_count, sent_when_ready, ready_objects}
-use Rattle.object_store.specs.Session.{AreOf}
-use Rattle.object_store.proofs.Public.{all_kept, whole_is_sent}
-use Rattle.receiver_core.specs.Best.{Objects, IsBestOf, complete, file_of_kind, file_of, files_of, is_better, installed_after}
+use Rattle.held_packets.specs.Held.{Held}
+use Rattle.held_packets.specs.Ready.{is_ready}
+use Rattle.held_packets.specs.Verdict.{held_after}
+use Rattle.held_packets.specs.KeptSet.{kept, gathered, set_count, sent_when_ready, ready_objects}
+use Rattle.held_packets.specs.Session.{AreOf}
+use Rattle.held_packets.proofs.Public.{all_kept, whole_is_sent}
+use Rattle.receiver_core.specs.Best.{Objects, IsBestOf, complete, file_of_kind, file_of, files_of, is_better}
+use Rattle.receiver_core.specs.BestOf.{installed_after}
 use Rattle.receiver_core.specs.Classes.{packets_of}
 use Rattle.receiver_core.proofs.Completing.{complete_descriptor, complete_named, descriptor_of}
 use Rattle.receiver_core.proofs.Public.{best_is_best, one_best}

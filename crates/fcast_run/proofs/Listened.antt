@@ -21,7 +21,7 @@ use Rattle.fcast_run.specs.Headline.{IsDatagramOf}
 use Rattle.fcast_run.specs.Listen.{reader_line, reader_lines, MayNote, AreReaderLines, TellsReaders, TellsPart, ListensBest}
 use Rattle.fcast_run.specs.Outcome.{limit, received, datagrams_taken}
 use Rattle.fcast_run.specs.declared.listen.listening.Listening.{Listening}
-use Rattle.object_store.specs.Session.{Session, IsSession}
+use Rattle.held_packets.specs.Session.{Session, IsSession}
 use Rattle.fcast_run.specs.Inner.Answers.{status_of_answer, Blames, AfterTaking, LeavesText, LeavesShelf}
 use Rattle.fcast_run.specs.Inner.Listens.{LeavesLines, LeavesNothing, AddsReaderLines, AddsLines, ComesOf}
 use Rattle.fcast_run.specs.Inner.Tellings.{TellsEvents}

@@ -15,7 +15,7 @@ use Rattle.alc_packet.specs.Packet.{SymbolPacket, full}
 use Rattle.alc_packet.specs.Datagram.{Spells}
 use Rattle.alc_packet.specs.declared.datagram.Datagram.TheVariants.{Symbol}
 use Rattle.alc_packet.proofs.Public.{answered}
-use Rattle.object_store.specs.Session as headline
+use Rattle.held_packets.specs.Session as headline
 use Rattle.sender_plan.specs.Session.{Session, SentObject, IsSession, HasObject, object_of, objects_of}
 use Rattle.sender_schedule.specs.Datagram.{sent_of, packet, datagram}
 use Rattle.sender_schedule.specs.SymbolIds.{IsSymbolId, symbol_ids}

@@ -6,11 +6,12 @@ use Rattle.std.proofs.lemmas.List.{append-nil}
 use Rattle.std.proofs.lemmas.List.Elements.{All-append, All-cons, All-nil, filter_map-append}
 use Rattle.wire_bytes.specs.Bytes.{AreBytes}
 use Rattle.carousel_cid.specs.Instances.{Shown}
-use Rattle.object_store.specs.Held.{Held, nothing_held}
-use Rattle.object_store.specs.Verdict.{step, held_after}
-use Rattle.object_store.specs.declared.kept.Kept.{Kept}
-use Rattle.object_store.specs.declared.kept.Kept.TheVariants as kept
-use Rattle.receiver_core.specs.Best.{NotOlder, best, installed_after}
+use Rattle.held_packets.specs.Held.{Held, nothing_held}
+use Rattle.held_packets.specs.Verdict.{step, held_after}
+use Rattle.held_packets.specs.declared.kept.Kept.{Kept}
+use Rattle.held_packets.specs.declared.kept.Kept.TheVariants as kept
+use Rattle.receiver_core.specs.Best.{NotOlder}
+use Rattle.receiver_core.specs.BestOf.{best, installed_after}
 use Rattle.receiver_core.specs.Classes.{taken_of, packet_under, packets_of, held_with}
 use Rattle.receiver_core.specs.Receiver.{Receiver, Announces}
 use Rattle.receiver_core.specs.declared.taken.Taken.{Taken}

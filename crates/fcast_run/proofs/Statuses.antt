@@ -3,9 +3,9 @@ use Rattle.std.proofs.Common.{◌≡◌, ℕ, Bool, true, false, List, [], Optio
 use Rattle.std.specs.Prelude.{◌≢◌, ◌⊎◌, ◌==◌, if◌then◌else◌, is_some}
 use Rattle.std.proofs.lemmas.Bool.Decides.{nat_tests}
 use Rattle.carousel_cid.specs.Instances.{Shown}
-use Rattle.object_store.specs.KeptSet.{drops}
+use Rattle.held_packets.specs.KeptSet.{drops}
 use Rattle.receiver_core.specs.Receiver.{Receiver}
-use Rattle.receiver_core.specs.Best.{installed_after}
+use Rattle.receiver_core.specs.BestOf.{installed_after}
 use Rattle.receiver_core.specs.Classes.{packets_of}
 use Rattle.fcast_run.specs.declared.settings.Settings.{Settings}
 use Rattle.fcast_run.specs.declared.ending.Ending.{Ending}

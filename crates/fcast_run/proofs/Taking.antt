@@ -7,15 +7,16 @@ use Rattle.alc_packet.specs.Reply.{reply}
 use Rattle.alc_packet.specs.declared.datagram.Datagram.{Datagram}
 use Rattle.alc_packet.specs.declared.datagram.Datagram.TheVariants as datagrams
 use Rattle.alc_packet.specs.declared.refusal.Refusal.{Refusal}
-use Rattle.object_store.specs.Held.{Held, nothing_held}
-use Rattle.object_store.specs.Verdict.{verdict, step, held_after, is_over_budget, steps_from, steps_of}
-use Rattle.object_store.specs.KeptSet.{drops_from, drops}
-use Rattle.object_store.specs.Whole.{whole}
+use Rattle.held_packets.specs.Held.{Held, nothing_held}
+use Rattle.held_packets.specs.Verdict.{verdict, step, held_after, is_over_budget, steps_from, steps_of}
+use Rattle.held_packets.specs.KeptSet.{drops_from, drops}
+use Rattle.held_packets.specs.Whole.{whole}
 use Rattle.oti_blocks.specs.Partition.{ObjectInformation}
 use Rattle.std.specs.FinMap.{keys, entries, len-empty, len-entries}
 use Rattle.std.specs.Ordering.{nat_cmp}
 use Rattle.std.proofs.lemmas.List.{nil_from_length, length-map}
-use Rattle.receiver_core.specs.Best.{best, best_of, complete}
+use Rattle.receiver_core.specs.Best.{complete}
+use Rattle.receiver_core.specs.BestOf.{best, best_of}
 use Rattle.receiver_core.specs.Classes.{taken_of, taken_reply, packet_of_reply, packet_under, packets_of, held_with, held_with_packet, steps_with, steps_with_packet, is_drop, drops_with}
 use Rattle.receiver_core.specs.Receiver.{Receiver}
 use Rattle.receiver_core.specs.declared.taken.Taken.TheVariants as taken

@@ -2,8 +2,8 @@
 use Rattle.std.proofs.Common.{◌≡◌, ℕ, ◌+◌, ◌≤◌, List, [], ◌∷◌, ◌++◌, ◌∙◌, refl, sym, ap, subst, arith, take, drop, append_assoc}
 use Rattle.std.specs.Prelude.{◌≢◌, Result, Ok, Err, IsErrAnd}
 use Rattle.std.proofs.lemmas.List.{append-nil, take-append-drop, take-take}
-use Rattle.object_store.specs.Held.{Held, nothing_held}
-use Rattle.object_store.specs.Verdict.{held_after}
+use Rattle.held_packets.specs.Held.{Held, nothing_held}
+use Rattle.held_packets.specs.Verdict.{held_after}
 use Rattle.receiver_core.specs.Classes.{packets_of}
 use Rattle.receiver_core.specs.Receiver.{Receiver}
 use Rattle.watch_list.specs.declared.event.Event.{Event}

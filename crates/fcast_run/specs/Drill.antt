@@ -7,9 +7,9 @@ use Rattle.std.specs.List.{range_with_len, swap, sum_by}
 use Rattle.std.specs.Fmt.{decimal}
 use Rattle.carousel_cid.specs.Instances.{Shown}
 use Rattle.carousel_cid.specs.declared.file_of.FileOf.{FileOf}
-use Rattle.object_store.specs.Held.{Held}
-use Rattle.object_store.specs.Verdict.{held_after}
-use Rattle.receiver_core.specs.Best.{installed_after}
+use Rattle.held_packets.specs.Held.{Held}
+use Rattle.held_packets.specs.Verdict.{held_after}
+use Rattle.receiver_core.specs.BestOf.{installed_after}
 use Rattle.receiver_core.specs.Classes.{packets_of}
 use Rattle.sender_plan.specs.CatalogInstance.{CatalogItem, CatalogInstance}
 use Rattle.sender_plan.specs.declared.params.Params.{Params}

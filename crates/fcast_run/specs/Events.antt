@@ -7,10 +7,10 @@ use Rattle.std.specs.Str.{bytes_eq}
 use Rattle.alc_packet.specs.Code.{code_of, detail_of}
 use Rattle.carousel_cid.specs.Instances.{Shown}
 use Rattle.carousel_cid.specs.declared.file_of.FileOf.{FileOf}
-use Rattle.object_store.specs.Held.{Held, nothing_held}
-use Rattle.object_store.specs.declared.kept.Kept.{Kept}
-use Rattle.object_store.specs.declared.kept.Kept.TheVariants as kept
-use Rattle.receiver_core.specs.Best.{best}
+use Rattle.held_packets.specs.Held.{Held, nothing_held}
+use Rattle.held_packets.specs.declared.kept.Kept.{Kept}
+use Rattle.held_packets.specs.declared.kept.Kept.TheVariants as kept
+use Rattle.receiver_core.specs.BestOf.{best}
 use Rattle.receiver_core.specs.Classes.{taken_of, held_with}
 use Rattle.receiver_core.specs.declared.taken.Taken.{Taken}
 use Rattle.receiver_core.specs.declared.taken.Taken.TheVariants as taken

@@ -3,8 +3,8 @@ use Rattle.std.specs.Prelude.{◌≡◌, ℕ, List, ◌++◌, map, Option, Some,
 use Rattle.wire_bytes.specs.Bytes.{AreBytes}
 use Rattle.alc_packet.specs.Packet.{SymbolPacket}
 use Rattle.alc_packet.specs.Datagram.{Spells}
-use Rattle.object_store.specs.Session.{Session, Belongs}
-use Rattle.object_store.specs.KeptSet.{kept, drops, gathered, ready_objects}
+use Rattle.held_packets.specs.Session.{Session, Belongs}
+use Rattle.held_packets.specs.KeptSet.{kept, drops, gathered, ready_objects}
 use Rattle.edge_io.specs.Shelved.{Shelved}
 use Rattle.carousel_cid.specs.Instances.{Shown}
 use Rattle.receiver_core.specs.Classes.{packets_of}

@@ -1,9 +1,9 @@
 -- Packets that make an instance ready.
 use Rattle.std.specs.Prelude.{◌≡◌, ℕ, true, ◌∷◌, Some, All}
 use Rattle.carousel_cid.specs.Instances.{Shown}
-use Rattle.object_store.specs.Held.{Held}
-use Rattle.object_store.specs.Ready.{is_ready}
-use Rattle.object_store.specs.Session.{Session, Sent}
+use Rattle.held_packets.specs.Held.{Held}
+use Rattle.held_packets.specs.Ready.{is_ready}
+use Rattle.held_packets.specs.Session.{Session, Sent}
 
 -- the session's object with this identifier has in every source block at least k distinct symbols in the set
 abbrev pub IsReadyIn : Session → Held → ℕ → Type 0

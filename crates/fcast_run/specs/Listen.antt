@@ -3,7 +3,7 @@ use Rattle.std.specs.Prelude.{◌≡◌, ℕ, ◌+◌, List, [], ◌∷◌, ◌+
 use Rattle.std.specs.Fmt.{decimal}
 use Rattle.carousel_cid.specs.Instances.{Shown}
 use Rattle.edge_io.specs.Shelved.{Shelved}
-use Rattle.object_store.specs.Session.{Session}
+use Rattle.held_packets.specs.Session.{Session}
 use Rattle.snapshot_hub.specs.Histories.{last_of}
 use Rattle.fcast_run.specs.Endings.{AddsPart}
 use Rattle.fcast_run.specs.Events.{published_of}

@@ -5,9 +5,9 @@ use Rattle.edge_io.specs.ShelfCalls.{Call, Begin, Put, Finish}
 use Rattle.alc_packet.specs.Packet.{SymbolPacket}
 use Rattle.carousel_cid.specs.Instances.{Shown}
 use Rattle.carousel_cid.specs.declared.file_of.FileOf.{FileOf}
-use Rattle.object_store.specs.KeptSet.{drops}
+use Rattle.held_packets.specs.KeptSet.{drops}
 use Rattle.receiver_core.specs.Classes.{packets_of}
-use Rattle.receiver_core.specs.Best.{installed_after}
+use Rattle.receiver_core.specs.BestOf.{installed_after}
 use Rattle.fcast_run.specs.Texts.{manifest, best_lines, over_line, ending_line}
 use Rattle.fcast_run.specs.declared.bound.Bound.{Bound}
 use Rattle.fcast_run.specs.declared.bound.Bound.TheVariants.{Most, Count}

@@ -1,9 +1,9 @@
 //! The command `drill`.
 ghost use Rattle.std.specs.Prelude.{◌≡◌, ◌+◌, ◌-◌, ◌^◌, true, None, [], min, IfOk, OnOk, OnErr, length};
 ghost use Rattle.edge_io.specs.Faults.{Rose};
-ghost use Rattle.object_store.specs.Held.{nothing_held};
-ghost use Rattle.object_store.specs.Verdict.{held_after, steps_of};
-ghost use Rattle.receiver_core.specs.Best.{installed_after};
+ghost use Rattle.held_packets.specs.Held.{nothing_held};
+ghost use Rattle.held_packets.specs.Verdict.{held_after, steps_of};
+ghost use Rattle.receiver_core.specs.BestOf.{installed_after};
 ghost use Rattle.receiver_core.specs.Classes.{packets_of};
 ghost use Rattle.fcast_run.specs.Drill as specs;
 ghost use Rattle.fcast_run.specs.Drill.{HoldsPart, drilled};

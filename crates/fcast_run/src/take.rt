@@ -9,7 +9,7 @@ ghost use Rattle.fcast_run.specs.Inner.Ranges.{IsInRange};
 ghost use Rattle.fcast_run.specs.Inner.Tellings.{TellsEvents};
 ghost use Rattle.fcast_run.specs.Inner.Showings.{with_option};
 ghost use Rattle.fcast_run.specs.Events.{events_with, published_with, published_of, published, HearsPart};
-ghost use Rattle.receiver_core.specs.Best.{best};
+ghost use Rattle.receiver_core.specs.BestOf.{best};
 ghost use Rattle.snapshot_hub.specs.Histories.{last_of};
 ghost use Rattle.watch_list.specs.Hearing.{Heard};
 

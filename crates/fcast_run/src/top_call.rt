@@ -2,8 +2,8 @@
 ghost use Rattle.std.specs.Prelude.{◌≡◌, ◌≢◌, ◌+◌, ◌++◌, ◌⊎◌, ℕ, true, false, Some, None, Ok, All, drop};
 ghost use Rattle.edge_io.specs.Faults.{Rose};
 ghost use Rattle.edge_io.specs.ShelfCalls.{after};
-ghost use Rattle.object_store.specs.Session.{Session, IsSession};
-ghost use Rattle.object_store.specs.KeptSet.{drops};
+ghost use Rattle.held_packets.specs.Session.{Session, IsSession};
+ghost use Rattle.held_packets.specs.KeptSet.{drops};
 ghost use Rattle.sender_plan.specs.Session as plans;
 ghost use Rattle.fcast_run.specs.Commands.{is_command, receiving_of, dump_of, send_of, drill_of};
 ghost use Rattle.fcast_run.specs.Texts.{usage_line};

@@ -20,8 +20,7 @@ use Rattle.object_store.specs.Inner.BlockHeld.{held_in, sources_in, is_full, sol
 use Rattle.object_store.specs.Inner.BlockRows.{row_entries, rows_map, symbol_row, rows_held, IsBlock, IsSolved, steps_when_full}
 use Rattle.wire_bytes.specs.Bytes.{zero_filled}
 use Rattle.rs_code.specs.SourceRows.{cut, IsSymbolRow}
-use Rattle.object_store.proofs.Nothing.{nothing_listed}
-use Rattle.object_store.proofs.Places.{tied_numbers}
+use Rattle.held_packets.proofs.Public.{nothing_listed, tied_numbers}
 use Rattle.object_store.proofs.SymbolRows.{symbol_row_is, row_of_symbols, held_when_full}
 
 -- the place is among these

@@ -6,22 +6,20 @@ use Rattle.std.specs.FinMap.{FinMap, get, insert}
 use Rattle.std.specs.BTreeMap.{BTreeMap, Updates}
 use Rattle.oti_blocks.specs.Partition.{ObjectInformation, size_at}
 use Rattle.alc_packet.specs.Packet.{SymbolPacket, IsPacket}
-use Rattle.object_store.specs.declared.kept.Kept.{Kept}
-use Rattle.object_store.specs.declared.kept.Kept.TheVariants.{New}
-use Rattle.object_store.specs.Held.{Held, symbols_held, joined}
-use Rattle.object_store.specs.Count.{byte_count, charge}
-use Rattle.object_store.specs.HeldPair.{IsHeldPair}
-use Rattle.object_store.specs.Ready.{is_block_ready, is_ready, sources_held}
-use Rattle.object_store.specs.Verdict.{verdict, is_new, row_steps, steps_for, completes_block}
+use Rattle.held_packets.specs.declared.kept.Kept.{Kept}
+use Rattle.held_packets.specs.declared.kept.Kept.TheVariants.{New}
+use Rattle.held_packets.specs.Held.{Held, symbols_held, joined}
+use Rattle.held_packets.specs.Count.{byte_count, charge}
+use Rattle.held_packets.specs.HeldPair.{IsHeldPair}
+use Rattle.held_packets.specs.Ready.{is_block_ready, is_ready, sources_held}
+use Rattle.held_packets.specs.Verdict.{verdict, is_new, row_steps, steps_for, completes_block}
 use Rattle.object_store.specs.Store.{IsListed}
 use Rattle.object_store.specs.Inner.ObjectHeld.{ObjectHeld, new_object, sources_at, is_block_done, is_done, with_packet, steps_at, Joins}
 use Rattle.object_store.specs.Inner.ObjectParts.{map_of}
 use Rattle.object_store.specs.Inner.Objects.{held_of, object_at, object_in, IsStore}
-use Rattle.object_store.proofs.Counting.{IsFresh, joined_count}
-use Rattle.object_store.proofs.Verdicts.{IsNew, new_says}
+use Rattle.held_packets.proofs.Public.{IsFresh, joined_count, IsNew, new_says, fresh_of_new, pair_joined}
 use Rattle.object_store.proofs.WithPacket.{get_of, map_updated}
 use Rattle.object_store.proofs.HeldView.{get_row, get_information, symbols_are, sources_are, blocks_are, ready_is_done, held_joined, object_then}
-use Rattle.object_store.proofs.Pairs.{fresh_of_new, pair_joined}
 use Rattle.object_store.proofs.ReadyList.{listed_joined}
 
 -- the packet's object has room for it

@@ -12,15 +12,12 @@ use Rattle.std.proofs.lemmas.Bool.Decides.{nat_tests}
 use Rattle.oti_blocks.specs.Partition.{ObjectInformation, encoding_at, blocks, size_at}
 use Rattle.alc_packet.specs.Packet.{SymbolPacket, full}
 use Rattle.wire_bytes.proofs.Public.{count_same, all_same}
-use Rattle.object_store.specs.Held.{Place, place, place_cmp, place_of, row_at, is_held, symbols_held, joined, nothing_held}
-use Rattle.object_store.specs.Ready.{is_block_ready, is_ready, sources_held}
+use Rattle.held_packets.specs.Held.{Place, place, place_cmp, place_of, row_at, is_held, symbols_held, joined, nothing_held}
+use Rattle.held_packets.specs.Ready.{is_block_ready, is_ready, sources_held}
 use Rattle.object_store.specs.Inner.BlockHeld.{BlockHeld, has_row}
 use Rattle.object_store.specs.Inner.ObjectHeld.{ObjectHeld, new_object, unopened, block_at, object_row, symbols_in, sources_at, is_block_done, is_done, with_packet}
 use Rattle.object_store.specs.Inner.Objects.{flat, block_rows, object_rows, held_of, object_at}
-use Rattle.object_store.proofs.Nothing.{nothing_listed}
-use Rattle.object_store.proofs.Places.{place_total, place_exact, tied_numbers, tied_places}
-use Rattle.object_store.proofs.Sums.{missing_above, both_hold}
-use Rattle.object_store.proofs.Counting.{row_joined}
+use Rattle.held_packets.proofs.Public.{nothing_listed, place_total, place_exact, tied_numbers, tied_places, missing_above, both_hold, row_joined}
 use Rattle.object_store.proofs.WithPacket.{row_here, block_elsewhere}
 
 -- ---- look-ups in joined lists

@@ -21,7 +21,7 @@ use Rattle.object_store.specs.Inner.BlockRows.{rows_map, symbols_at, IsSolved}
 use Rattle.object_store.specs.Inner.ObjectHeld.{ObjectHeld, unopened, block_at, symbols_in, is_block_done, is_done, IsShaped, AreRowsBelow}
 use Rattle.object_store.specs.Inner.ObjectParts.{object_of, places_of, rows_from, joined_block, joined_parts, ready_object, parts_seen}
 use Rattle.object_store.specs.Inner.ObjectParts.{object_seen, AreWithin, AreJoinedBelow}
-use Rattle.object_store.proofs.Places.{tied_numbers}
+use Rattle.held_packets.proofs.Public.{tied_numbers}
 use Rattle.object_store.proofs.SymbolRows.{symbols_by_cut}
 use Rattle.object_store.proofs.WithPacket.{none_in}
 use Rattle.object_store.proofs.Joining.{cut_front, open_when_done}

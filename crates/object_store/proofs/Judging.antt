@@ -9,18 +9,18 @@ use Rattle.oti_blocks.specs.Partition.{ObjectInformation, size_at}
 use Rattle.oti_blocks.proofs.Public.{size_bounds}
 use Rattle.alc_packet.specs.Packet.{SymbolPacket, IsPacket, full}
 use Rattle.object_store.specs.declared.judgement.Judgement.TheVariants.{Joins, Stays}
-use Rattle.object_store.specs.declared.kept.Kept.{Kept}
-use Rattle.object_store.specs.declared.kept.Kept.TheVariants.{Repeat, Spare, OtiDiffers, SymbolDiffers, OverBudget}
+use Rattle.held_packets.specs.declared.kept.Kept.{Kept}
+use Rattle.held_packets.specs.declared.kept.Kept.TheVariants.{Repeat, Spare, OtiDiffers, SymbolDiffers, OverBudget}
 use Rattle.object_store.specs.declared.finding.Finding.{Finding}
 use Rattle.object_store.specs.declared.finding.Finding.TheVariants.{Same, Differs, Full, Wanting}
-use Rattle.object_store.specs.Held.{Held, place_of, row_at, symbols_held, same_information, first_difference, joined}
-use Rattle.object_store.specs.Count.{byte_count, charge}
-use Rattle.object_store.specs.Verdict.{verdict, verdict_on_object, verdict_on_row, is_new, new_in}
+use Rattle.held_packets.specs.Held.{Held, place_of, row_at, symbols_held, same_information, first_difference, joined}
+use Rattle.held_packets.specs.Count.{byte_count, charge}
+use Rattle.held_packets.specs.Verdict.{verdict, verdict_on_object, verdict_on_row, is_new, new_in}
 use Rattle.object_store.specs.Inner.BlockHeld.{BlockHeld, finding_on}
 use Rattle.object_store.specs.Inner.ObjectHeld.{ObjectHeld, new_object, unopened, block_at, object_row, symbols_in, finding_at}
 use Rattle.object_store.specs.Inner.Objects.{held_of}
 use Rattle.object_store.specs.Inner.Judged.{by_budget, by_finding, judged_in, IsJudged}
-use Rattle.object_store.proofs.Verdicts.{same_is_equal}
+use Rattle.held_packets.proofs.Public.{same_is_equal}
 use Rattle.object_store.proofs.WithPacket.{none_in}
 use Rattle.object_store.proofs.HeldView.{get_information, held_here, symbols_are}
 

@@ -1,21 +1,3 @@
-pub mod Nothing
-pub mod Places
-pub mod Sums
-pub mod Counting
-pub mod Verdicts
-pub mod Solved
-pub mod WholeOnly
-pub mod Joined
-pub mod Symbols
-pub mod Agreeing
-pub mod SetCounts
-pub mod Turns
-pub mod KeptSets
-pub mod Sent
-pub mod Pairs
-pub mod Rising
-pub mod Sets
-pub mod WholeHas
 pub mod Differences
 pub mod SymbolRows
 pub mod Blocks
@@ -31,4 +13,3 @@ pub mod ReadyList
 pub mod Judging
 pub mod Entering
 pub mod Wholes
-pub mod Public

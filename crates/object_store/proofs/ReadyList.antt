@@ -9,15 +9,12 @@ use Rattle.oti_blocks.specs.Partition.{ObjectInformation, blocks, size_at}
 use Rattle.alc_packet.specs.Packet.{SymbolPacket, IsPacket}
 use Rattle.wire_bytes.specs.Below.{join_below}
 use Rattle.wire_bytes.proofs.Public.{all_same, not_all_below}
-use Rattle.object_store.specs.Held.{Held, symbols_held, joined}
-use Rattle.object_store.specs.HeldPair.{IsHeldPair}
-use Rattle.object_store.specs.Ready.{is_ready, is_block_ready}
-use Rattle.object_store.specs.Whole.{whole, bytes_when_ready, block_bytes}
+use Rattle.held_packets.specs.Held.{Held, nothing_held, symbols_held, joined}
+use Rattle.held_packets.specs.HeldPair.{IsHeldPair}
+use Rattle.held_packets.specs.Ready.{is_ready, is_block_ready}
+use Rattle.held_packets.specs.Whole.{whole, bytes_when_ready, block_bytes}
 use Rattle.object_store.specs.Store.{IsListed, is_in, are_different}
-use Rattle.object_store.proofs.Counting.{IsFresh, symbols_elsewhere}
-use Rattle.object_store.proofs.Verdicts.{IsNew}
-use Rattle.object_store.proofs.Joined.{object_joined}
-use Rattle.object_store.proofs.Pairs.{fresh_of_new}
+use Rattle.held_packets.proofs.Public.{nothing_whole, IsFresh, symbols_elsewhere, IsNew, object_joined, fresh_of_new}
 
 -- whether the object is held and ready
 abbrev pub is_whole : Held → ℕ → Option ObjectInformation → Bool
@@ -129,3 +126,7 @@ listed_joined budget held p ready pair is new listed = record { listed = λ t. b
     by_object t false there =
         whole_is_some (joined held p) t ∙ ap (is_whole (joined held p) t) (object_joined held p t ∙ ap (λ x. cond x (Some p.oti) (get held.objects t)) there)
         ∙ ready_elsewhere held p t (get held.objects t) there ∙ sym (whole_is_some held t) ∙ listed.listed t ∙ sym (others t (is_ready (joined held p) p.toi p.oti) there)
+
+-- nothing is ready where nothing is held
+pub nothing_listed_ready : IsListed nothing_held []
+nothing_listed_ready = record { listed = λ t. ap is_some (nothing_whole t); different = refl }

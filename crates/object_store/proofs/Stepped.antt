@@ -16,7 +16,7 @@ use Rattle.object_store.specs.Inner.BlockHeld.{BlockHeld, has_row, is_full, held
 use Rattle.object_store.specs.Inner.ObjectHeld.{ObjectHeld, unopened, block_at, symbols_in, is_block_done, is_done, with_packet, steps_at, Joins, AreRowsBelow}
 use Rattle.object_store.specs.Inner.ObjectParts.{map_of, object_of, joined_parts, ready_object, parts_seen, object_seen, part_at, part_with, MayJoin}
 use Rattle.object_store.specs.Inner.ObjectParts.{AreShaped, AreWithin, IsObject}
-use Rattle.object_store.proofs.Places.{tied_numbers}
+use Rattle.held_packets.proofs.Public.{tied_numbers}
 use Rattle.object_store.proofs.WithPacket.{map_updated, map_same, block_in_tree, held_is_symbols, may_join, block_here, block_elsewhere, symbols_here, filled_is_full}
 use Rattle.object_store.proofs.WithPacket.{shaped_with, waiting_with, none_waits, wasnt_done, someone_waits, block_within, place_within}
 use Rattle.object_store.proofs.JoinedBlocks.{seen_open, seen_ready}

@@ -14,8 +14,7 @@ use Rattle.rs_code.specs.Symbol.{IsSymbol}
 use Rattle.rs_code.proofs.Public.{interpolates, source_is_symbol, symbol_unique, length-column, get_or-column}
 use Rattle.rs_solve.specs.Solution.{IsSolution, row_at}
 use Rattle.object_store.specs.Inner.BlockRows.{symbol_row, symbols_at, rows_held}
-use Rattle.object_store.proofs.Nothing.{nothing_listed}
-use Rattle.object_store.proofs.Solved.{bytes_of_column}
+use Rattle.held_packets.proofs.Public.{nothing_listed, bytes_of_column}
 
 pub length-symbol_row : (k size j : ℕ) (bytes : List ℕ) → length (symbol_row k size bytes j) ≡ size
 unfolding symbol_row
@@ -77,14 +76,6 @@ symbol_row_source k size j bytes few are whole less = symbol_row_only k size j b
 })
 
 -- ---- the rows at some places
-
-pub length-symbols_at : (k size : ℕ) (bytes places : List ℕ) → length (symbols_at k size bytes places) ≡ length places * size
-unfolding symbols_at
-length-symbols_at k size bytes [] = omega arith
-length-symbols_at k size bytes (p ∷ places) =
-    let next : suc (length places) * size ≡ size + length places * size = omega arith in
-    let long = length-append (symbol_row k size bytes p) (symbols_at k size bytes places) in
-    omega (arith, long, length-symbol_row k size p bytes, length-symbols_at k size bytes places, next)
 
 -- the row in position i
 pub row_of_symbols : (k size i : ℕ) (bytes places : List ℕ) → i < length places

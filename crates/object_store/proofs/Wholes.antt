@@ -5,12 +5,13 @@ use Rattle.std.specs.Ordering.{nat_cmp}
 use Rattle.std.specs.FinMap.{FinMap, get}
 use Rattle.oti_blocks.specs.Partition.{IsSound, blocks}
 use Rattle.oti_blocks.proofs.Public.{start_last}
-use Rattle.object_store.specs.HeldPair.{IsHeldPair}
-use Rattle.object_store.specs.Whole.{whole, bytes_when_ready, AreSourceRows}
+use Rattle.held_packets.specs.HeldPair.{IsHeldPair}
+use Rattle.held_packets.specs.Whole.{whole, bytes_when_ready}
+use Rattle.held_packets.specs.ObjectRows.{AreSourceRows}
 use Rattle.object_store.specs.Store.{held_in_block}
 use Rattle.object_store.specs.Inner.ObjectHeld.{ObjectHeld, new_object, symbols_in, is_done, AreRowsBelow, IsWholeOf}
 use Rattle.object_store.specs.Inner.Objects.{held_of}
-use Rattle.object_store.proofs.WholeOnly.{whole_only}
+use Rattle.held_packets.proofs.Public.{whole_only}
 use Rattle.object_store.proofs.HeldView.{get_information, held_here, symbols_are, ready_is_done}
 
 module _ (m : FinMap nat_cmp ObjectHeld) (t : ℕ) where

@@ -20,7 +20,7 @@ use Rattle.object_store.specs.Inner.BlockHeld.{BlockHeld, has_row, held_in, with
 use Rattle.object_store.specs.Inner.ObjectHeld.{ObjectHeld, unopened, block_at, object_row, symbols_in, is_block_done}
 use Rattle.object_store.specs.Inner.ObjectHeld.{is_done, with_packet, finding_at, Joins, IsShaped}
 use Rattle.object_store.specs.Inner.ObjectParts.{map_of, AreShaped, MayJoin}
-use Rattle.object_store.proofs.Places.{tied_numbers}
+use Rattle.held_packets.proofs.Public.{tied_numbers}
 
 -- ---- trees as maps
 

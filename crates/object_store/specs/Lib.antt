@@ -1,11 +1,2 @@
-pub mod Held
-pub mod Count
-pub mod Ready
-pub mod Verdict
-pub mod Solved
-pub mod Whole
-pub mod HeldPair
-pub mod Session
-pub mod KeptSet
 pub mod Store
 pub mod Inner

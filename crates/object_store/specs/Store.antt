@@ -3,10 +3,10 @@ use Rattle.std.specs.Prelude.{◌≡◌, ℕ, ◌&&◌, ◌==◌, Bool, true, no
 use Rattle.std.specs.List.{list_any}
 use Rattle.oti_blocks.specs.Partition.{ObjectInformation}
 use Rattle.alc_packet.specs.Packet.{SymbolPacket}
-use Rattle.object_store.specs.declared.kept.Kept.{Kept}
-use Rattle.object_store.specs.Held.{Held, symbols_held}
-use Rattle.object_store.specs.Verdict.{completes_object}
-use Rattle.object_store.specs.Whole.{whole}
+use Rattle.held_packets.specs.declared.kept.Kept.{Kept}
+use Rattle.held_packets.specs.Held.{Held, symbols_held}
+use Rattle.held_packets.specs.Verdict.{completes_object}
+use Rattle.held_packets.specs.Whole.{whole}
 
 -- its budget, what it holds, and the identifiers of the ready objects in the order in which they became ready
 pub record Store : Type 0 where

@@ -1,6 +1,6 @@
 //! What is to be done with a packet.
 
-use crate::kept::Kept;
+use held_packets::Kept;
 
 /// Whether a packet's symbol joins what is held.
 #[derive(Clone, Copy)]

@@ -5,13 +5,11 @@ mod block;
 mod difference;
 mod finding;
 mod judgement;
-mod kept;
-pub mod laws;
 mod object;
 mod objects;
 mod parts;
 mod ready;
 mod store;
 
-pub use kept::Kept;
+pub use held_packets::Kept;
 pub use store::Store;

@@ -3,20 +3,20 @@ ghost use Rattle.std.specs.Prelude.{◌≡◌, ◌≢◌, ◌≤◌, ◌<◌, �
 ghost use Rattle.std.specs.Prelude.{min, Some, None, Ok, if◌then◌else◌, vec_len, vec_capacity, IfOk, OnOk, OnErr, IsOk, option_map};
 ghost use Rattle.std.specs.FinMap.{get};
 ghost use Rattle.alc_packet.specs.Packet.{IsPacket};
-ghost use Rattle.object_store.specs.Held.{nothing_held, joined};
-ghost use Rattle.object_store.specs.Count.{byte_count, charge};
-ghost use Rattle.object_store.specs.Verdict.{verdict, step, is_new, row_steps};
-ghost use Rattle.object_store.specs.Whole.{whole};
-ghost use Rattle.object_store.specs.HeldPair.{IsHeldPair};
+ghost use Rattle.held_packets.specs.Held.{nothing_held, joined};
+ghost use Rattle.held_packets.specs.Count.{byte_count, charge};
+ghost use Rattle.held_packets.specs.Verdict.{verdict, step, is_new, row_steps};
+ghost use Rattle.held_packets.specs.Whole.{whole};
+ghost use Rattle.held_packets.specs.HeldPair.{IsHeldPair};
 ghost use Rattle.object_store.specs.Store.{Store, IsListed, ready_with, held_in_block};
 ghost use Rattle.object_store.specs.Inner.Judged.{by_budget, by_finding, judged_in, IsJudged};
 
 use crate::finding::Finding;
 use crate::judgement::Judgement;
-use crate::kept::Kept;
 use crate::object::Object;
 use crate::objects::add_to_object;
 use alc_packet::Packet;
+use held_packets::Kept;
 use oti_blocks::Oti;
 use rs_solve::Steps;
 use std::alloc::{AllocError, Global};

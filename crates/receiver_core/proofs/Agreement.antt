@@ -1,13 +1,14 @@
 -- What is installed after lists of packets: agreement, and that no number falls.
 use Rattle.std.proofs.Common.{◌≡◌, ◌≤◌, ◌++◌, ℕ, List, subst, All}
 use Rattle.alc_packet.specs.Packet.{SymbolPacket, IsPacket}
-use Rattle.object_store.specs.Held.{Held}
-use Rattle.object_store.specs.Verdict.{held_after}
-use Rattle.object_store.specs.Whole.{whole}
-use Rattle.object_store.specs.Session.{Session, IsSession, AreOf}
-use Rattle.object_store.specs.KeptSet.{AreOneSet, kept, gathered, set_count}
-use Rattle.object_store.proofs.Public.{same_whole, any_order, whole_grows}
-use Rattle.receiver_core.specs.Best.{Objects, IsBestOf, NotOlder, best, installed_after}
+use Rattle.held_packets.specs.Held.{Held}
+use Rattle.held_packets.specs.Verdict.{held_after}
+use Rattle.held_packets.specs.Whole.{whole}
+use Rattle.held_packets.specs.Session.{Session, IsSession, AreOf}
+use Rattle.held_packets.specs.KeptSet.{AreOneSet, kept, gathered, set_count}
+use Rattle.held_packets.proofs.Public.{same_whole, any_order, whole_grows}
+use Rattle.receiver_core.specs.Best.{Objects, IsBestOf, NotOlder}
+use Rattle.receiver_core.specs.BestOf.{best, installed_after}
 use Rattle.receiver_core.proofs.Bests.{one_best, best_is_best, never_older}
 
 -- where the same is whole, the same instance is the best

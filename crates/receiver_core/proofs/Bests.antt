@@ -6,10 +6,11 @@ use Rattle.std.specs.Ordering.{nat_cmp, eq_by_cmp}
 use Rattle.std.specs.FinMap.{get, keys, contains_key-keys}
 use Rattle.std.proofs.lemmas.Bool.Decides.{nat_tests}
 use Rattle.carousel_cid.specs.Instances.{Shown}
-use Rattle.object_store.specs.Held.{Held}
-use Rattle.object_store.specs.Whole.{whole}
-use Rattle.object_store.proofs.Public.{tied_numbers}
-use Rattle.receiver_core.specs.Best.{Objects, complete, is_better, better_of, best_of, best, IsBestOf, Extends, NotOlder}
+use Rattle.held_packets.specs.Held.{Held}
+use Rattle.held_packets.specs.Whole.{whole}
+use Rattle.held_packets.proofs.Public.{tied_numbers}
+use Rattle.receiver_core.specs.Best.{Objects, complete, is_better, IsBestOf, Extends, NotOlder}
+use Rattle.receiver_core.specs.BestOf.{better_of, best_of, best}
 use Rattle.receiver_core.proofs.Completing.{complete_none, complete_named, complete_kept}
 
 -- not better than b, and b not better than i: not better than i

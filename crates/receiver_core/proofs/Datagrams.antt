@@ -1,15 +1,10 @@
 -- Datagrams and their packets, one after the other.
-use Rattle.std.proofs.Common.{◌≡◌, ℕ, List, [], ◌∷◌, ◌++◌, ◌∙◌, refl, Option, Some, None}
+use Rattle.std.proofs.Common.{◌≡◌, ℕ, List, [], ◌∷◌, ◌∙◌, refl, Option, Some, None}
 use Rattle.std.specs.List.{fold, cons_option}
 use Rattle.alc_packet.specs.Packet.{SymbolPacket}
-use Rattle.object_store.specs.Held.{Held}
-use Rattle.object_store.specs.Verdict.{step}
+use Rattle.held_packets.specs.Held.{Held}
+use Rattle.held_packets.specs.Verdict.{step}
 use Rattle.receiver_core.specs.Classes.{packet_under, packets_of, held_with, held_with_packet}
-
-pub fold_more : (budget : ℕ) (held : Held) (ps : List SymbolPacket) (p : SymbolPacket)
-    → fold (step budget) held (ps ++ p ∷ []) ≡ step budget (fold (step budget) held ps) p
-fold_more budget held [] p = refl
-fold_more budget held (q ∷ ps) p = fold_more budget (step budget held q) ps p
 
 in_front : (budget : ℕ) (held : Held) (first : Option SymbolPacket) (ps : List SymbolPacket)
     → fold (step budget) (held_with_packet budget held first) ps ≡ fold (step budget) held (cons_option first ps)

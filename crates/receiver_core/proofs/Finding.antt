@@ -10,7 +10,7 @@ use Rattle.carousel_cid.specs.declared.file_of.FileOf.{FileOf}
 use Rattle.carousel_cid.specs.Kinds.{kind_of_object}
 use Rattle.carousel_cid.specs.declared.kind.Kind.TheVariants.{Descriptor}
 use Rattle.object_store.specs.Store.{Store, is_in, IsListed}
-use Rattle.object_store.specs.Whole.{whole}
+use Rattle.held_packets.specs.Whole.{whole}
 use Rattle.receiver_core.specs.declared.candidate.Candidate.{Candidate}
 use Rattle.receiver_core.specs.Best.{Objects, complete, files_of}
 use Rattle.receiver_core.specs.Inner.Candidates.{candidates_in, toi_of, advanced, Each, is_file_at, kind_at, IsCandidate, AreEvery}

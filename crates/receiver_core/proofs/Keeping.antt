@@ -12,13 +12,13 @@ use Rattle.oti_blocks.specs.Partition.{ObjectInformation}
 use Rattle.alc_packet.specs.Packet.{SymbolPacket, IsPacket}
 use Rattle.carousel_cid.specs.Kinds.{kind_of_object}
 use Rattle.carousel_cid.specs.Instances.{Shown}
-use Rattle.object_store.specs.Held.{Held}
-use Rattle.object_store.specs.HeldPair.{IsHeldPair}
-use Rattle.object_store.specs.declared.kept.Kept.{Kept}
+use Rattle.held_packets.specs.Held.{Held}
+use Rattle.held_packets.specs.HeldPair.{IsHeldPair}
+use Rattle.held_packets.specs.declared.kept.Kept.{Kept}
 use Rattle.object_store.specs.Store.{Store, is_in, IsListed, ready_with}
-use Rattle.object_store.specs.Verdict.{step, completes_object}
-use Rattle.object_store.specs.Whole.{whole}
-use Rattle.object_store.proofs.Public.{whole_after}
+use Rattle.held_packets.specs.Verdict.{step, completes_object}
+use Rattle.held_packets.specs.Whole.{whole}
+use Rattle.held_packets.proofs.Public.{whole_after}
 use Rattle.receiver_core.specs.declared.candidate.Candidate.{Candidate}
 use Rattle.receiver_core.specs.declared.standing.Standing.{Standing}
 use Rattle.receiver_core.specs.declared.standing.Standing.TheVariants.{Whole}

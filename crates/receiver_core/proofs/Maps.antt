@@ -7,7 +7,7 @@ use Rattle.std.proofs.lemmas.Bool.Decides.{nat_tests}
 use Rattle.std.proofs.lemmas.List.{take_more}
 use Rattle.std.proofs.lemmas.List.Folds.{list_any-append}
 use Rattle.object_store.specs.Store.{is_in}
-use Rattle.object_store.proofs.Public.{tied_numbers}
+use Rattle.held_packets.proofs.Public.{tied_numbers}
 
 -- an identifier is in a list with one more where it was in it or is that one
 in_more : (ts : List ℕ) (i t : ℕ) → i < length ts → is_in t (take (i + 1) ts) ≡ (is_in t (take i ts) || ((get_or ts i 0 == t) || false))

@@ -115,9 +115,6 @@ some_equal x y e = cc
 same_number : (n m : ℕ) (ts us : List ℕ) → Descriptor n ts ≡ Descriptor m us → n ≡ m
 same_number n m ts us e = cc
 
-same_listed : (n m : ℕ) (ts us : List ℕ) → Descriptor n ts ≡ Descriptor m us → ts ≡ us
-same_listed n m ts us e = cc
-
 find_candidate : (objects : Objects) (installed : Option Shown) (cs : List Candidate) → Knows objects cs → (t : ℕ) (j : Shown) → complete objects t ≡ Some j
     → Found objects installed installed (chosen installed cs) j
 find_candidate objects installed cs knows t j e =

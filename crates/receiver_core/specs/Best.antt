@@ -1,17 +1,11 @@
 -- The best instance of the objects that are whole (RFC 6968, sections 3.2 and 4).
-use Rattle.std.specs.Prelude.{ℕ, ◌≡◌, ◌≤◌, ◌&&◌, ◌||◌, ◌==◌, Bool, false, nat_lt, if◌then◌else◌, List, [], ◌∷◌, Option, Some, None, option_map}
+use Rattle.std.specs.Prelude.{ℕ, ◌≡◌, ◌≤◌, ◌&&◌, ◌||◌, ◌==◌, Bool, false, nat_lt, List, [], ◌∷◌, Option, Some, None, option_map}
 use Rattle.std.specs.Option.{option_and_then}
-use Rattle.std.specs.List.{filter_map}
-use Rattle.std.specs.FinMap.{keys}
 use Rattle.carousel_cid.specs.Instances.{Shown}
 use Rattle.carousel_cid.specs.Kinds.{kind_of_object}
 use Rattle.carousel_cid.specs.declared.file_of.FileOf.{FileOf}
 use Rattle.carousel_cid.specs.declared.kind.Kind.{Kind}
 use Rattle.carousel_cid.specs.declared.kind.Kind.TheVariants.{File, Descriptor, Unusable}
-use Rattle.alc_packet.specs.Packet.{SymbolPacket}
-use Rattle.object_store.specs.Held.{Held}
-use Rattle.object_store.specs.Whole.{whole}
-use Rattle.object_store.specs.Verdict.{held_after}
 
 -- the whole objects, by their identifiers
 abbrev pub Objects : Type 0
@@ -65,22 +59,3 @@ abbrev pub NotOlder : Option Shown → Option Shown → Type 0
 NotOlder None new = Unit {0}
 NotOlder (Some i) None = ⊥
 NotOlder (Some i) (Some j) = (i.number ≤ j.number) × (i.number ≡ j.number → j.descriptor_toi ≤ i.descriptor_toi)
-
--- ---- the same by computing
-
-abbrev pub better_of : Shown → Option Shown → Shown
-better_of i None = i
-better_of i (Some j) = if is_better j i then j else i
-
--- the best of these
-abbrev pub best_of : List Shown → Option Shown
-best_of [] = None
-best_of (i ∷ is) = Some (better_of i (best_of is))
-
--- the best instance of the descriptors that are complete among what is held
-unfoldable pub best : Held → Option Shown
-best held = best_of (filter_map (complete (whole held)) (keys held.objects))
-
--- what a receiver with this budget has installed after a list of packets of its session
-abbrev pub installed_after : ℕ → List SymbolPacket → Option Shown
-installed_after budget ps = best (held_after budget ps)

@@ -6,8 +6,8 @@ use Rattle.alc_packet.specs.Reply.{reply}
 use Rattle.alc_packet.specs.declared.datagram.Datagram.{Datagram}
 use Rattle.alc_packet.specs.declared.datagram.Datagram.TheVariants as datagrams
 use Rattle.alc_packet.specs.declared.refusal.Refusal.{Refusal}
-use Rattle.object_store.specs.Held.{Held}
-use Rattle.object_store.specs.Verdict.{verdict, step, is_new, is_over_budget, row_steps}
+use Rattle.held_packets.specs.Held.{Held}
+use Rattle.held_packets.specs.Verdict.{verdict, step, is_new, is_over_budget, row_steps}
 use Rattle.receiver_core.specs.declared.taken.Taken.{Taken}
 use Rattle.receiver_core.specs.declared.taken.Taken.TheVariants.{Refused, Elsewhere, Control, Packet}
 

@@ -6,8 +6,8 @@ use Rattle.carousel_cid.specs.Instances.{Shown}
 use Rattle.carousel_cid.specs.Kinds.{kind_of_object}
 use Rattle.carousel_cid.specs.declared.kind.Kind.{Kind}
 use Rattle.carousel_cid.specs.declared.kind.Kind.TheVariants as kinds
-use Rattle.object_store.specs.Held.{Held}
-use Rattle.object_store.specs.Whole.{whole}
+use Rattle.held_packets.specs.Held.{Held}
+use Rattle.held_packets.specs.Whole.{whole}
 use Rattle.object_store.specs.Store.{is_in}
 use Rattle.receiver_core.specs.declared.standing.Standing.{Standing}
 use Rattle.receiver_core.specs.declared.standing.Standing.TheVariants.{Unknown, Partial, Whole, File, Descriptor, Unusable}

@@ -1,7 +1,7 @@
 //! The instance that a candidate announces.
 ghost use Rattle.std.specs.Prelude.{◌≡◌, Some, IfOk, option_map};
 ghost use Rattle.carousel_cid.specs.declared.kind.Kind.{Kind};
-ghost use Rattle.object_store.specs.Whole.{whole};
+ghost use Rattle.held_packets.specs.Whole.{whole};
 ghost use Rattle.receiver_core.specs.Best.{complete, file_of, files_of, file_of_kind};
 ghost use Rattle.receiver_core.specs.Inner.Candidates.{kind_at};
 

@@ -4,7 +4,7 @@ ghost use Rattle.std.specs.BTreeMap.{get, Updates};
 ghost use Rattle.std.specs.Ordering.{nat_cmp};
 ghost use Rattle.carousel_cid.specs.Kinds.{kind_of_object};
 ghost use Rattle.object_store.specs.Store.{is_in};
-ghost use Rattle.object_store.specs.Whole.{whole};
+ghost use Rattle.held_packets.specs.Whole.{whole};
 ghost use Rattle.receiver_core.specs.Inner.Candidates.{candidates_of, candidates_at, candidates_in};
 ghost use Rattle.receiver_core.specs.Inner.Standings.{standing_of_bytes};
 

@@ -2,12 +2,13 @@
 ghost use Rattle.std.specs.Prelude.{◌≡◌, ◌≤◌, ◌++◌, ℕ, List, Option, All};
 ghost use Rattle.alc_packet.specs.Packet.{SymbolPacket, IsPacket};
 ghost use Rattle.carousel_cid.specs.Instances.{Shown};
-ghost use Rattle.object_store.specs.Held.{Held};
-ghost use Rattle.object_store.specs.Verdict.{step, held_after};
-ghost use Rattle.object_store.specs.Whole.{whole};
-ghost use Rattle.object_store.specs.Session.{Session, IsSession, AreOf};
-ghost use Rattle.object_store.specs.KeptSet.{AreOneSet, kept, gathered, set_count};
-ghost use Rattle.receiver_core.specs.Best.{Objects, IsBestOf, Extends, NotOlder, best, installed_after};
+ghost use Rattle.held_packets.specs.Held.{Held};
+ghost use Rattle.held_packets.specs.Verdict.{step, held_after};
+ghost use Rattle.held_packets.specs.Whole.{whole};
+ghost use Rattle.held_packets.specs.Session.{Session, IsSession, AreOf};
+ghost use Rattle.held_packets.specs.KeptSet.{AreOneSet, kept, gathered, set_count};
+ghost use Rattle.receiver_core.specs.Best.{Objects, IsBestOf, Extends, NotOlder};
+ghost use Rattle.receiver_core.specs.BestOf.{best, installed_after};
 ghost use Rattle.receiver_core.specs.Classes.{packets_of, held_with};
 ghost use Rattle.std.specs.List.{fold};
 

@@ -1,13 +1,13 @@
 //! The receiver.
 ghost use Rattle.std.specs.Prelude.{◌≡◌, ◌<◌, ◌≤◌, ◌+◌, ◌-◌, ◌^◌, ℕ, [], true, false, Some, None, min, IfOk, OnOk, OnErr, IsOk, option_map, is_some};
 ghost use Rattle.alc_packet.specs.Packet.{IsPacket};
-ghost use Rattle.object_store.specs.Held.{nothing_held};
-ghost use Rattle.object_store.specs.Whole.{whole};
+ghost use Rattle.held_packets.specs.Held.{nothing_held};
+ghost use Rattle.held_packets.specs.Whole.{whole};
 ghost use Rattle.object_store.specs.Store.{is_in};
-ghost use Rattle.receiver_core.specs.Best.{best};
+ghost use Rattle.receiver_core.specs.BestOf.{best};
 ghost use Rattle.receiver_core.specs.Classes.{taken_of, taken_control, held_with, steps_with, takes_memory, drops_with};
 ghost use Rattle.receiver_core.specs.Inner.Drops.{drops_after};
-ghost use Rattle.object_store.specs.Verdict.{verdict, step, is_new, row_steps};
+ghost use Rattle.held_packets.specs.Verdict.{verdict, step, is_new, row_steps};
 ghost use Rattle.receiver_core.specs.Receiver.{Receiver, Announces, standing_of};
 
 use crate::candidate::Candidate;
@@ -43,7 +43,7 @@ impl Model for Receiver {
     ghost use Rattle.receiver_core.specs.Inner.Settling.{IsSettling};
     ghost use Rattle.std.specs.Prelude.{take};
     ghost use Rattle.std.specs.Coded.{codes};
-    ghost use Rattle.object_store.specs.Inner.Codes.{held_code};
+    ghost use Rattle.held_packets.specs.Codes.{held_code};
 
     ghost Value = { Receiver };
 

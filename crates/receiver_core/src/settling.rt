@@ -4,7 +4,7 @@ ghost use Rattle.std.specs.Option.{option_or};
 ghost use Rattle.std.specs.BTreeMap.{get};
 ghost use Rattle.std.specs.Ordering.{nat_cmp};
 ghost use Rattle.object_store.specs.Store.{is_in, IsListed};
-ghost use Rattle.object_store.specs.Whole.{whole};
+ghost use Rattle.held_packets.specs.Whole.{whole};
 ghost use Rattle.receiver_core.specs.Inner.Candidates.{Each, IsCandidate, AreEvery, toi_of};
 ghost use Rattle.receiver_core.specs.Inner.Standings.{AreStandings};
 ghost use Rattle.receiver_core.specs.Inner.Settling.{IsSettling, Finds};

@@ -1,10 +1,10 @@
 -- A receiver that has taken a list of datagrams.
 use Rattle.std.specs.Prelude.{◌≡◌, ℕ, List, All}
 use Rattle.wire_bytes.specs.Bytes.{AreBytes}
-use Rattle.object_store.specs.Verdict.{held_after}
-use Rattle.object_store.specs.KeptSet.{drops}
+use Rattle.held_packets.specs.Verdict.{held_after}
+use Rattle.held_packets.specs.KeptSet.{drops}
 use Rattle.receiver_core.specs.Classes.{packets_of}
-use Rattle.receiver_core.specs.Best.{installed_after}
+use Rattle.receiver_core.specs.BestOf.{installed_after}
 use Rattle.receiver_core.specs.Receiver.{Receiver}
 
 pub record HasTaken (r : Receiver) (datagrams : List (List ℕ)) : Type 0 where

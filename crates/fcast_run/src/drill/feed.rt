@@ -1,6 +1,6 @@
 //! The receiver of a drill.
 ghost use Rattle.std.specs.Prelude.{◌≡◌, ◌≤◌, ◌<◌, ◌+◌, ◌-◌, ◌^◌, ◌∷◌, ◌++◌, ◌⊎◌, [], ℕ, List, min, OnOk, OnErr};
-ghost use Rattle.object_store.specs.Verdict.{held_after, steps_of};
+ghost use Rattle.held_packets.specs.Verdict.{held_after, steps_of};
 ghost use Rattle.receiver_core.specs.Classes.{packets_of, steps_with};
 ghost use Rattle.fcast_run.specs.Drill.{HoldsPart};
 ghost use Rattle.fcast_run.specs.Inner.HasTaken.{HasTaken};

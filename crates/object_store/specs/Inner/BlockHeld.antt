@@ -8,7 +8,7 @@ use Rattle.wire_bytes.specs.Bytes.{zero_filled}
 use Rattle.rs_code.specs.SourceRows.{cut, IsSymbolRow}
 use Rattle.object_store.specs.declared.finding.Finding.{Finding}
 use Rattle.object_store.specs.declared.finding.Finding.TheVariants.{Same, Differs, Full, Wanting}
-use Rattle.object_store.specs.Held.{first_difference}
+use Rattle.held_packets.specs.Held.{first_difference}
 
 -- the block has k source symbols, n encoding symbols of `size` bytes, and these rows by their places
 pub record BlockHeld : Type 0 where

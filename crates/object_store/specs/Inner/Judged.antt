@@ -1,14 +1,14 @@
 -- The verdict from what a packet's object says of it.
 use Rattle.std.specs.Prelude.{◌≡◌, ℕ, ◌+◌, nat_lt, ◌==◌, if◌then◌else◌, true, false}
 use Rattle.alc_packet.specs.Packet.{SymbolPacket}
-use Rattle.object_store.specs.declared.kept.Kept.{Kept}
-use Rattle.object_store.specs.declared.kept.Kept.TheVariants.{Repeat, Spare, OtiDiffers, SymbolDiffers, OverBudget}
+use Rattle.held_packets.specs.declared.kept.Kept.{Kept}
+use Rattle.held_packets.specs.declared.kept.Kept.TheVariants.{Repeat, Spare, OtiDiffers, SymbolDiffers, OverBudget}
 use Rattle.object_store.specs.declared.finding.Finding.{Finding}
 use Rattle.object_store.specs.declared.finding.Finding.TheVariants.{Same, Differs, Full, Wanting}
 use Rattle.object_store.specs.declared.judgement.Judgement.{Judgement}
 use Rattle.object_store.specs.declared.judgement.Judgement.TheVariants.{Joins, Stays}
-use Rattle.object_store.specs.Held.{same_information}
-use Rattle.object_store.specs.Verdict.{is_new}
+use Rattle.held_packets.specs.Held.{same_information}
+use Rattle.held_packets.specs.Verdict.{is_new}
 use Rattle.object_store.specs.Inner.ObjectHeld.{ObjectHeld, finding_at}
 
 abbrev pub by_budget : ℕ → ℕ → ℕ → Judgement

@@ -5,9 +5,9 @@ use Rattle.std.specs.FinMap.{FinMap, get, entries, from_entries}
 use Rattle.std.specs.BTreeMap.{BTreeMap}
 use Rattle.std.specs.BTreeMap as tree
 use Rattle.alc_packet.specs.Packet.{SymbolPacket}
-use Rattle.object_store.specs.Held.{Held, Place, place}
-use Rattle.object_store.specs.Count.{byte_count}
-use Rattle.object_store.specs.HeldPair.{IsHeldPair}
+use Rattle.held_packets.specs.Held.{Held, Place, place}
+use Rattle.held_packets.specs.Count.{byte_count}
+use Rattle.held_packets.specs.HeldPair.{IsHeldPair}
 use Rattle.object_store.specs.Store.{IsListed}
 use Rattle.object_store.specs.Inner.BlockHeld.{BlockHeld}
 use Rattle.object_store.specs.Inner.ObjectHeld.{ObjectHeld, new_object}

@@ -1,7 +1,7 @@
 -- The count of packets over the budget.
 use Rattle.std.specs.Prelude.{ℕ, ◌+◌, ◌-◌, ◌^◌, min, if◌then◌else◌}
-use Rattle.object_store.specs.declared.kept.Kept.{Kept}
-use Rattle.object_store.specs.Verdict.{is_over_budget}
+use Rattle.held_packets.specs.declared.kept.Kept.{Kept}
+use Rattle.held_packets.specs.Verdict.{is_over_budget}
 
 -- with a packet of the session that has this verdict
 abbrev pub drops_after : ℕ → Kept → ℕ

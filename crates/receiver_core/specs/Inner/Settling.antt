@@ -2,7 +2,7 @@
 use Rattle.std.specs.Prelude.{◌≢◌, ◌≤◌, ℕ, if◌then◌else◌, List, Option, Some, None, take, length}
 use Rattle.carousel_cid.specs.Instances.{Shown}
 use Rattle.object_store.specs.Store.{Store, is_in}
-use Rattle.object_store.specs.Whole.{whole}
+use Rattle.held_packets.specs.Whole.{whole}
 use Rattle.receiver_core.specs.declared.candidate.Candidate.{Candidate}
 use Rattle.receiver_core.specs.Best.{Objects, IsBestOf}
 use Rattle.receiver_core.specs.Inner.Candidates.{Each, IsCandidate, AreEvery}

@@ -1,7 +1,7 @@
 use Rattle.std.proofs.Common.{◌≡◌, ◌∙◌, ℕ, List, length, ap, subst, rules}
 use Rattle.std.specs.Prelude.{IfOk}
-use Rattle.object_store.specs.Verdict.{held_after}
-use Rattle.receiver_core.specs.Best.{installed_after}
+use Rattle.held_packets.specs.Verdict.{held_after}
+use Rattle.receiver_core.specs.BestOf.{installed_after}
 use Rattle.receiver_core.specs.Classes.{packets_of}
 use Rattle.fcast_run.specs.Drill.{deliveries, HoldsPart}
 use Rattle.fcast_run.specs.declared.drill.summary.Summary.{Summary}

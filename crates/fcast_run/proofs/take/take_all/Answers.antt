@@ -1,7 +1,7 @@
 use Rattle.std.proofs.Common.{◌≡◌, ◌+◌, ◌≤◌, ◌<◌, [], ◌++◌, ◌∙◌, refl, sym, ap, subst, arith, length, take, rules}
 use Rattle.fcast_run.specs.Inner.HasTaken.{HasTaken}
 use Rattle.fcast_run.specs.Outcome.{limit, ending_at}
-use Rattle.receiver_core.specs.Best.{best}
+use Rattle.receiver_core.specs.BestOf.{best}
 use Rattle.fcast_run.specs.Events.{events_of, events_with}
 use Rattle.fcast_run.proofs.Told.{heard_next, heard_all, none_heard, part_heard, told_at_memory, events_more, events_behind}
 use Rattle.fcast_run.proofs.Taking.{best_of_nothing, installed_best}

@@ -1,5 +1,5 @@
 use Rattle.std.proofs.Common.{◌∷◌, [], ◌∙◌, sym, ap, subst, arith, length}
-use Rattle.receiver_core.specs.Best.{best}
+use Rattle.receiver_core.specs.BestOf.{best}
 use Rattle.receiver_core.specs.Classes.{drops_with, held_with}
 use Rattle.fcast_run.specs.Inner.Ranges.{HasPlace}
 use Rattle.fcast_run.specs.Inner.Showings.{with_option, when_another}

@@ -1,6 +1,6 @@
 use Rattle.std.proofs.Common.{◌≡◌, ◌++◌, drop}
 use Rattle.std.specs.Prelude.{option_map}
-use Rattle.object_store.specs.Whole.{whole}
+use Rattle.held_packets.specs.Whole.{whole}
 use Rattle.receiver_core.specs.Best.{files_of}
 use Rattle.receiver_core.proofs.announcing.files_of.Given as goal
 

@@ -1,6 +1,6 @@
 use Rattle.std.proofs.Common.{◌≡◌, ◌∙◌, sym, ap, subst, rules, Some, None}
 use Rattle.carousel_cid.specs.Instances.{IsListed}
-use Rattle.object_store.specs.Whole.{whole}
+use Rattle.held_packets.specs.Whole.{whole}
 use Rattle.receiver_core.specs.Best.{files_of}
 use Rattle.receiver_core.proofs.Finding.{not_complete, made, listed_files}
 use Rattle.receiver_core.proofs.announcing.instance_of.Goals as goal

@@ -2,7 +2,7 @@ use Rattle.std.proofs.Common.{◌<◌, cond, ◌∙◌, ap, rules, length}
 use Rattle.std.specs.Prelude.{option_map}
 use Rattle.std.specs.BTreeMap.{get}
 use Rattle.std.specs.Ordering.{nat_cmp}
-use Rattle.object_store.specs.Whole.{whole}
+use Rattle.held_packets.specs.Whole.{whole}
 use Rattle.receiver_core.specs.Inner.Standings.{standing_of_bytes}
 use Rattle.receiver_core.proofs.Candidacies.{candidates_more}
 use Rattle.receiver_core.proofs.Finding.{on_err_any}

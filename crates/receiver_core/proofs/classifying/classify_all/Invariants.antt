@@ -3,7 +3,7 @@ use Rattle.std.specs.Prelude.{option_map}
 use Rattle.std.specs.BTreeMap.{get}
 use Rattle.std.specs.Ordering.{nat_cmp}
 use Rattle.object_store.specs.Store.{is_in}
-use Rattle.object_store.specs.Whole.{whole}
+use Rattle.held_packets.specs.Whole.{whole}
 use Rattle.receiver_core.specs.Inner.Candidates.{candidates_in}
 use Rattle.receiver_core.specs.Inner.Standings.{standing_of_bytes}
 use Rattle.receiver_core.proofs.classifying.classify_all.Given as goal

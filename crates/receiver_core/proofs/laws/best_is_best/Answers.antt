@@ -1,4 +1,4 @@
-use Rattle.object_store.specs.Verdict.{held_after}
+use Rattle.held_packets.specs.Verdict.{held_after}
 use Rattle.receiver_core.proofs.Bests.{best_is_best}
 use Rattle.receiver_core.proofs.laws.best_is_best.Goals as goal
 

@@ -1,6 +1,6 @@
 use Rattle.std.proofs.Common.{◌∙◌, sym, ap, subst, take}
 use Rattle.object_store.specs.Store.{is_in}
-use Rattle.object_store.specs.Whole.{whole}
+use Rattle.held_packets.specs.Whole.{whole}
 use Rattle.receiver_core.specs.Best.{complete}
 use Rattle.receiver_core.specs.Inner.Candidates.{IsCandidate, Each}
 use Rattle.receiver_core.specs.Inner.Choice.{chosen}

@@ -1,6 +1,6 @@
 use Rattle.std.proofs.Common.{rules, ◌≡◌, ◌+◌, ◌∷◌, ◌++◌, [], ℕ, List, take, sym, ap, ◌∙◌, min, ◌-◌, ◌^◌}
 use Rattle.std.proofs.lemmas.List.{take_more}
-use Rattle.object_store.specs.Verdict.{steps_of}
+use Rattle.held_packets.specs.Verdict.{steps_of}
 use Rattle.receiver_core.specs.Classes.{packets_of}
 use Rattle.fcast_run.proofs.DrillTaking.{steps_more_are}
 use Rattle.fcast_run.proofs.drill.feed.feed.Goals as goal

@@ -1,6 +1,6 @@
 -- the datagrams before this one are taken
 use Rattle.std.proofs.Common.{◌≡◌, ◌+◌, ◌-◌, ◌≤◌, ◌^◌, min, take}
-use Rattle.object_store.specs.Verdict.{steps_of}
+use Rattle.held_packets.specs.Verdict.{steps_of}
 use Rattle.receiver_core.specs.Classes.{packets_of}
 use Rattle.fcast_run.specs.Inner.HasTaken.{HasTaken}
 use Rattle.fcast_run.proofs.drill.feed.feed.Given as goal

@@ -1,5 +1,5 @@
 use Rattle.std.proofs.Common.{◌∙◌, sym, ap, inr}
-use Rattle.receiver_core.specs.Best.{best}
+use Rattle.receiver_core.specs.BestOf.{best}
 use Rattle.receiver_core.specs.Classes.{drops_with}
 use Rattle.fcast_run.proofs.DrillTaking.{held_more_is}
 use Rattle.fcast_run.proofs.Dumping.{on_error}

@@ -1,8 +1,8 @@
 use Rattle.std.proofs.Common.{◌+◌, ◌∙◌, ◌++◌, ◌∷◌, [], ℕ, List, min, ap, sym, subst}
 use Rattle.std.specs.Prelude.{if◌then◌else◌}
-use Rattle.object_store.specs.Held.{Held, joined}
-use Rattle.object_store.specs.Count.{charge}
-use Rattle.object_store.specs.Verdict.{verdict, is_new, row_steps}
+use Rattle.held_packets.specs.Held.{Held, joined}
+use Rattle.held_packets.specs.Count.{charge}
+use Rattle.held_packets.specs.Verdict.{verdict, is_new, row_steps}
 use Rattle.object_store.specs.Store as specs
 use Rattle.object_store.specs.Inner.ObjectParts.{map_of}
 use Rattle.object_store.specs.Inner.Objects.{held_of, IsStore}

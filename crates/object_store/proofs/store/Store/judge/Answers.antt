@@ -4,8 +4,8 @@ use Rattle.std.specs.BTreeMap as tree
 use Rattle.alc_packet.specs.Packet.{SymbolPacket, IsPacket}
 use Rattle.object_store.specs.declared.finding.Finding.TheVariants.{Wanting}
 use Rattle.object_store.specs.declared.judgement.Judgement.{Judgement}
-use Rattle.object_store.specs.Count.{charge}
-use Rattle.object_store.specs.Verdict.{verdict}
+use Rattle.held_packets.specs.Count.{charge}
+use Rattle.held_packets.specs.Verdict.{verdict}
 use Rattle.object_store.specs.Store as specs
 use Rattle.object_store.specs.Inner.ObjectParts.{map_of}
 use Rattle.object_store.specs.Inner.Objects.{held_of}

@@ -1,8 +1,9 @@
 use Rattle.std.proofs.Common.{rules, ◌≡◌, ◌∙◌, ℕ, List, ap, sym, subst, arith}
-use Rattle.object_store.specs.Held.{Held, nothing_held}
+use Rattle.held_packets.specs.Held.{Held, nothing_held}
 use Rattle.object_store.specs.Inner.ObjectParts.{map_of}
 use Rattle.object_store.specs.Inner.Objects.{held_of, IsStore}
-use Rattle.object_store.proofs.Nothing.{nothing_counted, nothing_listed_ready, nothing_pair}
+use Rattle.held_packets.proofs.Public.{nothing_counted, nothing_pair}
+use Rattle.object_store.proofs.ReadyList.{nothing_listed_ready}
 use Rattle.object_store.proofs.WithPacket.{map_none}
 use Rattle.object_store.proofs.HeldView.{held_of_none}
 use Rattle.object_store.proofs.store.Store.start.Goals as goal

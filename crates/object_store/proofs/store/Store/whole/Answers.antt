@@ -1,6 +1,6 @@
 use Rattle.std.proofs.Common.{◌∙◌, ap, sym}
 use Rattle.object_store.specs.Store as specs
-use Rattle.object_store.specs.Whole.{whole}
+use Rattle.held_packets.specs.Whole.{whole}
 use Rattle.object_store.specs.Inner.ObjectParts.{map_of}
 use Rattle.object_store.proofs.WithPacket.{get_of}
 use Rattle.object_store.proofs.Wholes.{whole_of_object, whole_of_none}

@@ -5,9 +5,10 @@ use Rattle.std.specs.BTreeMap.{get}
 use Rattle.std.specs.Ordering.{nat_cmp}
 use Rattle.carousel_cid.specs.Instances.{Shown}
 use Rattle.object_store.specs.Store.{is_in}
-use Rattle.object_store.specs.Whole.{whole}
+use Rattle.held_packets.specs.Whole.{whole}
 use Rattle.receiver_core.specs.declared.candidate.Candidate.{Candidate}
-use Rattle.receiver_core.specs.Best.{best, IsBestOf}
+use Rattle.receiver_core.specs.Best.{IsBestOf}
+use Rattle.receiver_core.specs.BestOf.{best}
 use Rattle.receiver_core.specs.Receiver.{Receiver, Announces}
 use Rattle.receiver_core.specs.Inner.Settling.{IsSettling}
 use Rattle.receiver_core.proofs.Bests.{best_is}

@@ -2,7 +2,7 @@ use Rattle.std.proofs.Common.{◌≡◌, subst, rules, Some, None, true, take}
 use Rattle.std.specs.Prelude.{is_some}
 use Rattle.std.specs.BTreeMap.{get}
 use Rattle.std.specs.Ordering.{nat_cmp}
-use Rattle.object_store.specs.Whole.{whole}
+use Rattle.held_packets.specs.Whole.{whole}
 use Rattle.receiver_core.specs.declared.standing.Standing.TheVariants.{Whole}
 use Rattle.receiver_core.specs.Receiver.{Receiver, standing_of}
 use Rattle.receiver_core.proofs.Keeping.{known_standing, whole_standing}

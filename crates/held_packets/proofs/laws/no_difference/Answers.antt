@@ -1,0 +1,5 @@
+use Rattle.held_packets.proofs.KeptSets.{turn}
+use Rattle.held_packets.proofs.laws.no_difference.Goals as goal
+
+pub returns : goal.returns
+returns c = λ s budget ps p session are is. (turn s budget ps p session are is).no_difference

@@ -1,0 +1,11 @@
+pub mod Held
+pub mod Count
+pub mod Ready
+pub mod Verdict
+pub mod Solved
+pub mod Whole
+pub mod ObjectRows
+pub mod HeldPair
+pub mod Session
+pub mod KeptSet
+pub mod Codes
