@@ -1,4 +1,4 @@
-//! Tests of what a receiver keeps and installs. There is nothing here but tests.
+//! Tests of what a store keeps. There is nothing here but tests.
 #![tactic(auto)]
 
 #[cfg(test)]

@@ -1,13 +1,5 @@
-//! Stores, and receivers over them.
-mod arrivals;
-mod blocks;
-mod costs;
+//! Stores of a session's packets.
 mod counts;
-mod datagrams;
-mod instances;
 mod keeping;
-mod objects;
 mod same;
-mod standings;
 mod symbols;
-mod trial;

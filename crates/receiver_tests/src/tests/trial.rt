@@ -43,7 +43,10 @@ impl Trial {
 
     /// What becomes of a datagram; none without memory.
     pub fn take(&mut self, datagram: &[u8]) -> Option<Taken> {
-        self.receiver.take(datagram, &mut self.steps).ok()
+        match self.receiver.take(datagram, &mut self.steps) {
+            Ok(taken) => Some(taken),
+            Err(_) => None,
+        }
     }
 
     /// What becomes of a datagram that was made; none without memory.
@@ -56,7 +59,10 @@ impl Trial {
 
     /// What a settling answers; none without memory.
     pub fn settle(&mut self) -> Option<Option<u32>> {
-        self.receiver.settle().ok()
+        match self.receiver.settle() {
+            Ok(number) => Some(number),
+            Err(_) => None,
+        }
     }
 
     pub fn standing(&self, toi: u32) -> Standing {

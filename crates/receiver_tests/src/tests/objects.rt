@@ -87,10 +87,22 @@ fn padding(size: usize) -> &'static [u8] {
 fn compound(alloc: Global, flags: u8, metadata: &[u8], body: &[u8]) -> Result<Vec<u8>, AllocError> {
     let size = metadata.len().saturating_add(8);
     let header = u32::try_from(size).unwrap_or(u32::MAX).to_be_bytes();
-    let zeros = padding(size);
-    let unsummed = joined(alloc, &[&[flags, 0, 0, 0], &header, metadata, zeros, body])?;
-    let sum = checksum(unsummed.as_slice()).to_be_bytes();
-    joined(alloc, &[&[flags, 0], &sum, &header, metadata, zeros, body])
+    let mut object = Vec::from_slice(alloc, &[flags, 0, 0, 0])?;
+    object.extend_from_slice(&header)?;
+    object.extend_from_slice(metadata)?;
+    object.extend_from_slice(padding(size))?;
+    object.extend_from_slice(body)?;
+    let sum = checksum(object.as_slice()).to_be_bytes();
+    put(object.as_mut_slice(), 2, sum[0]);
+    put(object.as_mut_slice(), 3, sum[1]);
+    Ok(object)
+}
+
+/// Puts a byte into a place, where there is one.
+fn put(bytes: &mut [u8], place: usize, byte: u8) {
+    if place < bytes.len() {
+        bytes[place] = byte;
+    }
 }
 
 /// The file with location `a` and the body `hi`.
@@ -109,8 +121,6 @@ pub fn descriptor(alloc: Global, number: u8, list: &str) -> Result<Vec<u8>, Allo
 /// These bytes with another one at a place.
 pub fn bent(alloc: Global, bytes: &[u8], place: usize, byte: u8) -> Result<Vec<u8>, AllocError> {
     let mut changed = Vec::from_slice(alloc, bytes)?;
-    if place < changed.len() {
-        changed[place] = byte;
-    }
+    put(changed.as_mut_slice(), place, byte);
     Ok(changed)
 }
