@@ -1,13 +1,1 @@
-pub mod Texts
-pub mod Commands
-pub mod Outcome
-pub mod Endings
-pub mod Dump
-pub mod Send
-pub mod SentSession
-pub mod LastInstance
-pub mod Drill
-pub mod Headline
-pub mod Events
-pub mod Listen
-pub mod Inner
+pub mod ListensBest

@@ -5,32 +5,25 @@ ghost use Rattle.edge_io.specs.ShelfCalls.{after};
 ghost use Rattle.held_packets.specs.Session.{Session, IsSession};
 ghost use Rattle.held_packets.specs.KeptSet.{drops};
 ghost use Rattle.watch_list.specs.Hearing.{Heard};
-ghost use Rattle.fcast_run.specs.Commands.{listening_of};
-ghost use Rattle.fcast_run.specs.Texts.{usage_line};
-ghost use Rattle.fcast_run.specs.Outcome.{received, asked, datagrams_taken, packets_taken, IsCounted};
-ghost use Rattle.fcast_run.specs.Endings.{is_listen_status, is_apart, IsDone, AddsPart, AcceptsPart, AcceptsFewer};
-ghost use Rattle.fcast_run.specs.Events.{events_taken, published, HearsPart, HearsFirst};
-ghost use Rattle.fcast_run.specs.Headline.{IsDatagramOf};
-ghost use Rattle.fcast_run.specs.Listen.{TellsReaders, TellsPart, ListensBest};
-ghost use Rattle.fcast_run.specs.declared.listen.listening.Listening.{Listening};
+ghost use Rattle.run_words.specs.Commands.{listening_of};
+ghost use Rattle.run_base.specs.Texts.{usage_line};
+ghost use Rattle.run_receive.specs.Outcome.{received, packets_taken};
+ghost use Rattle.run_base.specs.Bounds.{asked, datagrams_taken, IsCounted};
+ghost use Rattle.run_base.specs.Endings.{is_listen_status, is_apart, IsDone, AddsPart, AcceptsPart, AcceptsFewer};
+ghost use Rattle.run_receive.specs.Events.{events_taken, published, HearsPart, HearsFirst};
+ghost use Rattle.run_headline.specs.Headline.{IsDatagramOf};
+ghost use Rattle.run_readers.specs.ReaderLines.{TellsReaders, TellsPart};
+ghost use Rattle.fcast_run.specs.ListensBest.{ListensBest};
+ghost use Rattle.run_words.specs.declared.listening.Listening.{Listening};
 
-mod beside;
-mod gate;
-mod lines;
-mod listening;
-mod reader;
-mod seats;
-mod stage;
-
+use crate::beside::receive_beside;
 use crate::edge::Edge;
-use crate::fault::Fault;
-use crate::listen::beside::receive_beside;
-use crate::listen::listening::read_listening;
-use crate::tell::tell_usage;
 use crate::top_call::status_of;
 use edge_io::{Datagrams, Emit, Files, Shelf, Text};
-pub use gate::{Gate, Wide};
 use meta_text::Label;
+use run_base::{Fault, tell_usage};
+use run_readers::Gate;
+use run_words::read_listening;
 use snapshot_hub::Hub;
 use std::alloc::Global;
 use std::marker::Brand;
@@ -42,8 +35,8 @@ use watch_list::Watch;
 ///
 /// `listen` is `replay`, or `recv` where it has an address, beside `--readers` readers, from 1 to 16. Each of them looks
 /// at the instance that is installed, in a thread of its own, and passes the gate before each look. An instance that is
-/// installed is published to them behind the datagram that completes it, and once the watchers were told. The readers
-/// stop when no further datagram will be taken. Then the shelf and the report come as they do for `replay`, and behind
+/// installed is published to them after the datagram that completes it, and once the watchers were told. The readers
+/// stop when no further datagram will be taken. Then the shelf and the report come as they do for `replay`, and after
 /// the report a line for each reader: the number that it noted last before it stopped, and the number of the instance
 /// that is installed, which it is shown at last.
 ///

@@ -1,20 +1,19 @@
 //! Receiving a session.
-ghost use Rattle.std.specs.Prelude.{◌≡◌, ◌≢◌, ◌≤◌, ◌+◌, [], true, Some, IfOk, OnErr, drop};
+ghost use Rattle.std.specs.Prelude.{◌≡◌, ◌≢◌, ◌≤◌, [], true, Some, IfOk, OnErr, drop};
 ghost use Rattle.edge_io.specs.Faults.{Rose};
-ghost use Rattle.fcast_run.specs.Outcome.{received, asked, IsCounted};
-ghost use Rattle.fcast_run.specs.Endings.{is_apart, is_base};
-ghost use Rattle.fcast_run.specs.Inner.Answers.{Blames, AfterTaking, LeavesText, LeavesShelf, status_of_answer};
-ghost use Rattle.fcast_run.specs.Inner.Ranges.{IsInRange};
-ghost use Rattle.fcast_run.specs.Inner.Tellings.{TellsEvents};
-ghost use Rattle.fcast_run.specs.Events.{published};
+ghost use Rattle.run_receive.specs.Outcome.{received};
+ghost use Rattle.run_base.specs.Bounds.{asked, IsCounted};
+ghost use Rattle.run_base.specs.Endings.{is_apart, is_base};
+ghost use Rattle.run_base.specs.Answers.{Blames, AfterTaking, LeavesText, LeavesShelf, status_of_answer};
+ghost use Rattle.run_base.specs.Ranges.{IsInRange};
+ghost use Rattle.run_receive.specs.Tellings.{TellsEvents};
+ghost use Rattle.run_receive.specs.Events.{published};
 ghost use Rattle.watch_list.specs.Hearing.{Heard};
 
-use crate::audience::Audience;
-use crate::conclude::conclude;
-use crate::fault::Fault;
-use crate::settings::Settings;
 use crate::take::gather;
 use edge_io::{Datagrams, Shelf, Text};
+use run_base::{Fault, Settings};
+use run_receive::{Audience, conclude};
 use std::alloc::Global;
 use watch_list::Watch;
 

@@ -1,32 +1,26 @@
 //! Taking the datagrams of a list.
-ghost use Rattle.std.specs.Prelude.{◌≡◌, ◌≢◌, ◌+◌, ◌-◌, ◌≤◌, ◌<◌, ◌^◌, ◌∷◌, ◌++◌, [], ℕ, List, IfOk, OnOk, OnErr, length, take, drop, vec_len, Some};
+ghost use Rattle.std.specs.Prelude.{◌≡◌, ◌≢◌, ◌+◌, ◌-◌, ◌≤◌, ◌<◌, ◌^◌, ◌∷◌, ◌++◌, [], ℕ, List, IfOk, OnOk, OnErr, length, take, drop, Some};
 ghost use Rattle.edge_io.specs.Faults.{Rose};
-ghost use Rattle.fcast_run.specs.declared.ending.Ending.TheVariants.{TooMany};
-ghost use Rattle.fcast_run.specs.Outcome.{ending_of, limit, asked, datagrams_taken, IsCounted};
-ghost use Rattle.fcast_run.specs.Inner.HasTaken.{HasTaken, HasTakenSome};
-ghost use Rattle.fcast_run.specs.Inner.Answers.{Blames};
-ghost use Rattle.fcast_run.specs.Inner.Ranges.{IsInRange};
-ghost use Rattle.fcast_run.specs.Inner.Tellings.{TellsEvents};
-ghost use Rattle.fcast_run.specs.Inner.Showings.{with_option};
-ghost use Rattle.fcast_run.specs.Events.{events_with, published_with, published_of, published, HearsPart};
+ghost use Rattle.run_base.specs.declared.ending.Ending.TheVariants.{TooMany};
+ghost use Rattle.run_base.specs.Bounds.{ending_of, limit, asked, datagrams_taken, IsCounted};
+ghost use Rattle.run_receive.specs.HasTaken.{HasTaken, HasTakenSome};
+ghost use Rattle.run_base.specs.Answers.{Blames};
+ghost use Rattle.run_base.specs.Ranges.{IsInRange};
+ghost use Rattle.run_receive.specs.Tellings.{TellsEvents};
+ghost use Rattle.run_receive.specs.Showings.{with_option};
+ghost use Rattle.run_receive.specs.Events.{events_with, published_with, published_of, published, HearsPart};
 ghost use Rattle.receiver_core.specs.BestOf.{best};
 ghost use Rattle.snapshot_hub.specs.Histories.{last_of};
 ghost use Rattle.watch_list.specs.Hearing.{Heard};
 
-use crate::audience::Audience;
-use crate::bound::Bound;
-use crate::ending::Ending;
-use crate::events::{show_installed, tell_installed, tell_taken};
-use crate::fault::Fault;
-use crate::settings::Settings;
+use crate::events::{tell_installed, tell_taken};
 use edge_io::{Datagrams, Next};
 use receiver_core::Receiver;
 use rs_solve::Steps;
+use run_base::{Bound, Ending, Fault, Settings, datagram_buffer};
+use run_receive::{Audience, show_installed};
 use std::alloc::{AllocError, Global};
 use watch_list::Watch;
-
-/// The longest datagram of a log, in bytes.
-const BUFFER: usize = 65_535;
 
 /// A list of datagrams that a receiver has taken.
 #[derive(Drop)]
@@ -60,7 +54,7 @@ pub fn gather<D: Datagrams, A: Audience>(
         (λ v e n. refuses v e n) events watchers.old.items watchers.new.items) }
     ensures shown { OnOk result (D.told datagrams.old → A.told → A.shown audience.new ≡ published settings.now (D.left datagrams.old)) }
 {
-    let mut buffer = zeros(alloc, BUFFER)?;
+    let mut buffer = datagram_buffer(alloc)?;
     let mut receiver = Receiver::start(alloc, settings.tsi, settings.budget)?;
     let Ok(()) = datagrams.connect(&settings.place) else {
         return Err(Fault::Datagrams);
@@ -165,11 +159,4 @@ fn take_one<L, A: Audience>(
     tell_installed(watchers, number);
     show_installed(audience, number, receiver.installed())?;
     Ok(())
-}
-
-/// So many zero bytes.
-pub fn zeros(alloc: Global, size: usize) -> Result<Vec<u8>, AllocError>
-    ensures { IfOk result (λ v. vec_len v ≡ size) }
-{
-    vec![in alloc; 0u8; size]
 }

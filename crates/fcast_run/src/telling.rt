@@ -1,9 +1,9 @@
 //! How an event goes to a list of watchers.
 //!
-//! This is `tell_all` of `watch_list` once more: what is proved of a caller that lends a list of boxes to another crate
-//! would depend on whether that crate makes boxes of its own.
+//! This is `tell_all` of `watch_list` once more: the check marks as hiding a function that lends a list of boxes to
+//! another crate, and the gate refuses what hides.
 
-ghost use Rattle.std.specs.Prelude.{◌≡◌, ℕ, ◌+◌, ◌≤◌, [], ◌∷◌, ◌++◌, IsTrue, not, vec_len};
+ghost use Rattle.std.specs.Prelude.{◌≡◌, ◌+◌, [], ◌∷◌, ◌++◌, IsTrue, not, vec_len};
 ghost use Rattle.edge_io.specs.Faults.{Rose};
 ghost use Rattle.watch_list.specs.Hearing.{Heard};
 

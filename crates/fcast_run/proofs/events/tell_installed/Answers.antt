@@ -1,8 +1,8 @@
 use Rattle.std.proofs.Common.{◌∷◌, [], sym, ap}
 use Rattle.watch_list.specs.declared.event.Event.TheVariants.{Installed}
 use Rattle.watch_list.proofs.Public.{heard_nothing}
-use Rattle.fcast_run.specs.Events.{announcement}
-use Rattle.fcast_run.proofs.Told.{heard_as}
+use Rattle.run_receive.specs.Events.{announcement}
+use Rattle.run_receive.proofs.Public.{heard_as}
 use Rattle.fcast_run.proofs.events.tell_installed.Goals as goal
 
 pub returns-in-Some : goal.returns-in-Some

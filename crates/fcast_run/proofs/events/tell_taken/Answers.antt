@@ -1,7 +1,7 @@
 use Rattle.std.proofs.Common.{◌∷◌, [], ap}
 use Rattle.watch_list.specs.declared.event.Event.{Event}
-use Rattle.fcast_run.specs.Events.{event_of}
-use Rattle.fcast_run.proofs.Told.{heard_as}
+use Rattle.run_receive.specs.Events.{event_of}
+use Rattle.run_receive.proofs.Public.{heard_as}
 use Rattle.fcast_run.proofs.events.tell_taken.Goals as goal
 
 pub returns : goal.returns

@@ -1,10 +1,10 @@
 use Rattle.std.proofs.Common.{◌≡◌, ◌∙◌, refl, sym, inr}
-use Rattle.fcast_run.specs.Events.{events_taken, published}
-use Rattle.fcast_run.proofs.Answered.{ends_of, for_value, done_at_end, if_done, shelf_if_done}
-use Rattle.fcast_run.proofs.Headline.{at_end_of, at_end_of_few}
-use Rattle.fcast_run.proofs.Listened.{listens_best, lines_if_done, nothing_told}
-use Rattle.fcast_run.proofs.Statuses.{over_of, none_over_of}
-use Rattle.fcast_run.proofs.Told.{all_told, told_at_4, no_event_heard}
+use Rattle.run_receive.specs.Events.{events_taken, published}
+use Rattle.run_base.proofs.Public.{ends_of, for_value, done_at_end, if_done, shelf_if_done}
+use Rattle.run_headline.proofs.Public.{at_end_of, at_end_of_few}
+use Rattle.fcast_run.proofs.Listened.{listens_best}
+use Rattle.run_readers.proofs.Public.{lines_if_done, nothing_told}
+use Rattle.run_receive.proofs.Public.{over_of, none_over_of, all_told, told_at_4, no_event_heard}
 use Rattle.fcast_run.proofs.listen.run_listen.Goals as goal
 
 pub returns-in_default-clause-text_part : goal.returns-in_default-clause-text_part

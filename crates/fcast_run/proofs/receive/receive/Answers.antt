@@ -1,9 +1,8 @@
 use Rattle.std.proofs.Common.{◌≡◌, subst}
 use Rattle.std.specs.Prelude.{IfOk}
-use Rattle.fcast_run.specs.Outcome.{Outcome}
-use Rattle.fcast_run.specs.Inner.Answers.{LeavesText, LeavesShelf}
-use Rattle.fcast_run.proofs.Statuses.{outcome_is}
-use Rattle.fcast_run.proofs.Told.{told_before}
+use Rattle.run_receive.specs.Outcome.{Outcome}
+use Rattle.run_base.specs.Answers.{LeavesText, LeavesShelf}
+use Rattle.run_receive.proofs.Public.{outcome_is, told_before}
 use Rattle.fcast_run.proofs.receive.receive.Goals as goal
 
 pub returns-clause-status : goal.returns-clause-status

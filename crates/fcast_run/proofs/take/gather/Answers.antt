@@ -1,9 +1,8 @@
 use Rattle.std.proofs.Common.{◌∙◌, ap, take}
 use Rattle.receiver_core.specs.Receiver.{Receiver}
-use Rattle.fcast_run.specs.Outcome.{limit}
-use Rattle.fcast_run.specs.Events.{events_of}
-use Rattle.fcast_run.proofs.Told.{heard_as, no_event_heard, no_datagram_heard, told_at_memory}
-use Rattle.fcast_run.proofs.Taking.{fresh}
+use Rattle.run_base.specs.Bounds.{limit}
+use Rattle.run_receive.specs.Events.{events_of}
+use Rattle.run_receive.proofs.Public.{heard_as, no_event_heard, no_datagram_heard, told_at_memory, fresh}
 use Rattle.fcast_run.proofs.take.gather.Goals as goal
 
 pub take_all-requires-clause-fresh : goal.take_all-requires-clause-fresh

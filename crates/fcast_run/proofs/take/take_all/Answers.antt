@@ -1,17 +1,14 @@
 use Rattle.std.proofs.Common.{◌≡◌, ◌+◌, ◌≤◌, ◌<◌, [], ◌++◌, ◌∙◌, refl, sym, ap, subst, arith, length, take, rules}
-use Rattle.fcast_run.specs.Inner.HasTaken.{HasTaken}
-use Rattle.fcast_run.specs.Outcome.{limit, ending_at}
+use Rattle.run_receive.specs.HasTaken.{HasTaken}
+use Rattle.run_base.specs.Bounds.{limit, ending_at}
 use Rattle.receiver_core.specs.BestOf.{best}
-use Rattle.fcast_run.specs.Events.{events_of, events_with}
-use Rattle.fcast_run.proofs.Told.{heard_next, heard_all, none_heard, part_heard, told_at_memory, events_more, events_behind}
-use Rattle.fcast_run.proofs.Taking.{best_of_nothing, installed_best}
-use Rattle.fcast_run.proofs.Showing.{published_more, shown_all, nothing_published}
-use Rattle.fcast_run.specs.Events.{published_with}
-use Rattle.fcast_run.specs.Inner.Showings.{with_option}
+use Rattle.run_receive.specs.Events.{events_of, events_with, published_with}
+use Rattle.run_receive.proofs.Public.{heard_next, heard_all, none_heard, part_heard, told_at_memory, events_more, events_behind, best_of_nothing, installed_best, published_more, shown_all, nothing_published}
+use Rattle.run_receive.specs.Showings.{with_option}
 use Rattle.snapshot_hub.specs.Histories.{last_of}
 use Rattle.std.proofs.lemmas.List.Elements.{All-nil}
 use Rattle.wire_bytes.specs.Bytes.{AreBytes}
-use Rattle.fcast_run.proofs.Lists.{next_of, one_behind, none_left, all_taken, ends_at, ends_last}
+use Rattle.run_base.proofs.Public.{next_of, one_behind, none_left, all_taken, ends_at, ends_last}
 use Rattle.fcast_run.proofs.take.take_all.Goals as goal
 
 pub loop-taken-preserved : goal.loop-taken-preserved

@@ -1,9 +1,9 @@
 -- the datagrams before this one are taken
 use Rattle.std.proofs.Common.{◌≡◌, ◌≤◌, length, take, drop}
-use Rattle.fcast_run.specs.Inner.HasTaken.{HasTaken, HasTakenSome}
+use Rattle.run_receive.specs.HasTaken.{HasTaken, HasTakenSome}
 use Rattle.snapshot_hub.specs.Histories.{last_of}
 use Rattle.watch_list.specs.Hearing.{Heard}
-use Rattle.fcast_run.specs.Events.{events_of, published_of}
+use Rattle.run_receive.specs.Events.{events_of, published_of}
 use Rattle.fcast_run.proofs.take.take_all.Given as goal
 
 abbrev pub invariant-loop-taken : goal.invariant-loop-taken

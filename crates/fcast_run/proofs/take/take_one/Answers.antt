@@ -1,15 +1,10 @@
-use Rattle.std.proofs.Common.{◌∷◌, [], ◌∙◌, sym, ap, subst, arith, length}
+use Rattle.std.proofs.Common.{◌∷◌, [], ◌∙◌, sym, ap, arith, length}
 use Rattle.receiver_core.specs.BestOf.{best}
 use Rattle.receiver_core.specs.Classes.{drops_with, held_with}
-use Rattle.fcast_run.specs.Inner.Ranges.{HasPlace}
-use Rattle.fcast_run.specs.Inner.Showings.{with_option, when_another}
-use Rattle.fcast_run.proofs.EventLists.{placed, events_are}
-use Rattle.fcast_run.proofs.Told.{heard_next, no_event_heard, whole_is_part}
-use Rattle.fcast_run.proofs.Dumping.{on_error}
-use Rattle.fcast_run.specs.Events.{event_of, announcement, other_number, events_with}
-use Rattle.fcast_run.proofs.Spelled.{are_bytes}
-use Rattle.fcast_run.proofs.Taking.{one_more, installed_best}
-use Rattle.fcast_run.proofs.Showing.{some_more, not_older, may_follow, last_shown, one_longer, shown_is}
+use Rattle.run_receive.specs.Showings.{with_option, when_another}
+use Rattle.run_receive.proofs.Public.{events_are, are_bytes, one_more, installed_best, some_more, not_older, may_follow, last_shown, one_longer, shown_is, heard_next, no_event_heard, whole_is_part}
+use Rattle.run_base.proofs.Public.{on_error}
+use Rattle.run_receive.specs.Events.{event_of, announcement, other_number, events_with}
 use Rattle.snapshot_hub.specs.Histories.{last_of}
 use Rattle.fcast_run.proofs.take.take_one.Goals as goal
 
@@ -24,12 +19,6 @@ returns-clause-taken g c =
       drops = settled.drops ∙ (taken.drops ∙ ap (drops_with c.args.receiver.now.drops) taken.answer);
       installed = settled.best ∙ ap best (sym settled.held);
     }) few has
-
-pub tell_taken-requires : goal.tell_taken-requires
-tell_taken-requires g c =
-    let d = c.args.datagram.now in
-    subst HasPlace (sym c.in_ok-taken.ensures.answer)
-    (placed c.args.receiver.now.tsi c.args.receiver.now.budget c.args.receiver.now.held d (are_bytes d (λ i. (c.type_inv.datagram i).fits)))
 
 pub returns-clause-events : goal.returns-clause-events
 returns-clause-events g c = λ installed.

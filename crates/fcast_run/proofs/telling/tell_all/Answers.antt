@@ -1,6 +1,5 @@
 use Rattle.std.proofs.Common.{rules, ◌<◌, length, refl}
-use Rattle.watch_list.proofs.Public.{refused_one}
-use Rattle.watch_list.proofs.Public.{step_stays, rest_stays, step_goes, rest_goes}
+use Rattle.watch_list.proofs.Public.{refused_one, step_stays, rest_stays, step_goes, rest_goes}
 use Rattle.fcast_run.proofs.telling.tell_all.Goals as goal
 
 pub loop-place-preserved-then-tell_one : goal.loop-place-preserved-then-tell_one

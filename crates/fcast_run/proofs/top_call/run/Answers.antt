@@ -1,11 +1,10 @@
 use Rattle.std.proofs.Common.{◌≡◌, inr}
-use Rattle.fcast_run.specs.Endings.{IsDone}
-use Rattle.fcast_run.proofs.Answered.{ends_of, for_value, receiving_is, dump_is, send_is, drill_is, done_at_end, if_done, text_if_done, shelf_if_done, if_stopped, stopped_at}
-use Rattle.fcast_run.proofs.Answered.{text_if_stopped, nothing_added, complete}
-use Rattle.fcast_run.proofs.Headline.{headline, at_end_of, at_end_of_few}
-use Rattle.fcast_run.proofs.Statuses.{over_of, none_over_of}
-use Rattle.fcast_run.proofs.Told.{all_told, told_at_9, told_at_4, no_event_heard}
-use Rattle.fcast_run.specs.Events.{events_taken}
+use Rattle.run_base.specs.Endings.{IsDone}
+use Rattle.run_base.proofs.Public.{ends_of, for_value, done_at_end, if_done, text_if_done, shelf_if_done, if_stopped, stopped_at, text_if_stopped, complete, nothing_added}
+use Rattle.run_words.proofs.Public.{receiving_is, dump_is, send_is, drill_is}
+use Rattle.run_headline.proofs.Public.{headline, at_end_of, at_end_of_few}
+use Rattle.run_receive.proofs.Public.{over_of, none_over_of, all_told, told_at_9, told_at_4, no_event_heard}
+use Rattle.run_receive.specs.Events.{events_taken}
 use Rattle.fcast_run.proofs.top_call.run.Goals as goal
 
 pub returns-in-Receive-clause-headline : goal.returns-in-Receive-clause-headline

@@ -1,7 +1,0 @@
--- the bytes of the files before this one
-use Rattle.std.proofs.Common.{◌≡◌, take}
-use Rattle.fcast_run.specs.Drill.{total_of}
-use Rattle.fcast_run.proofs.drill.summary.total_of.Given as goal
-
-abbrev pub invariant-loop-file : goal.invariant-loop-file
-invariant-loop-file l = l.total ≡ total_of (take l.file-index l.files)

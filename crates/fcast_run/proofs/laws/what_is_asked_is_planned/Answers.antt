@@ -1,5 +1,0 @@
-use Rattle.fcast_run.proofs.Asked.{planned_of}
-use Rattle.fcast_run.proofs.laws.what_is_asked_is_planned.Goals as goal
-
-pub returns : goal.returns
-returns c = planned_of

@@ -1,5 +1,0 @@
-use Rattle.fcast_run.proofs.Statuses.{not_zero}
-use Rattle.fcast_run.proofs.report.push_over.Goals as goal
-
-pub returns : goal.returns
-returns c = rw (not_zero c.args.drops c.if-drops-eq0.false, ← c.from.ensures) c.push_number.ensures

@@ -1,0 +1,5 @@
+pub mod Answers
+pub mod Bounds
+pub mod Endings
+pub mod Ranges
+pub mod Texts

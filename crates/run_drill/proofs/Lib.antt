@@ -1,0 +1,3 @@
+pub mod DrillCatalog
+pub mod DrillTaking
+pub mod Drilling

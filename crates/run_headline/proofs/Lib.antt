@@ -1,0 +1,5 @@
+pub mod DatagramBytes
+pub mod Headline
+pub mod LastInstance
+pub mod SentSession
+pub mod Public

@@ -1,0 +1,3 @@
+pub mod Headline
+pub mod LastInstance
+pub mod SentSession

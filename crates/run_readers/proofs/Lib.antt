@@ -1,0 +1,3 @@
+pub mod Listened
+pub mod Noted
+pub mod Public

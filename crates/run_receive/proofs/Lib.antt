@@ -1,0 +1,9 @@
+pub mod ReportLast
+pub mod EventLists
+pub mod Installing
+pub mod Showing
+pub mod Spelled
+pub mod Statuses
+pub mod Taking
+pub mod Told
+pub mod Public

@@ -1,0 +1,6 @@
+pub mod Events
+pub mod HasTaken
+pub mod Outcome
+pub mod Showings
+pub mod Tellings
+pub mod Texts
