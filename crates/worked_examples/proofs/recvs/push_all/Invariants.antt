@@ -1,7 +1,0 @@
--- each datagram so far is short enough
-use Rattle.std.proofs.Common.{◌≤◌}
-use Rattle.std.specs.Prelude.{All, vec_len}
-use Rattle.worked_examples.proofs.recvs.push_all.Given as goal
-
-abbrev pub invariant-loop-datagram : goal.invariant-loop-datagram
-invariant-loop-datagram l = All (λ d. vec_len d ≤ 65535) l.datagrams.items

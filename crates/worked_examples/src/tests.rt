@@ -1,0 +1,11 @@
+//! Receiving, over forms in memory.
+
+mod budgets;
+mod failures;
+mod recvs;
+mod replays;
+mod rows;
+mod same;
+mod sessions;
+mod tellings;
+mod words;
