@@ -151,6 +151,9 @@ instance ok a; mkfifo site/a; refused "place at a pipe" fcast-place site; absent
 instance a/b; mkdir site/a; echo older >site/a/b; echo mine >site/a/c; try "place at a file" 0 fcast-place site
 holds "place at a file" site/a/b "body 1"; holds "place at a file" site/a/c mine
 instance a; refused "place in installed" fcast-place installed; mkdir installed/x; refused "place below installed" fcast-place ./installed/x/
+instance ok installed/b; refused "place at installed by a location" fcast-place .; absent "place at installed by a location" ok installed/b
+instance ok installed; refused "place at the folder installed" fcast-place .; absent "place at the folder installed" ok
+instance installed/b; try "place in another installed" 0 fcast-place site
 instance a; refused "place in no folder" fcast-place nowhere; refused "place in a file" fcast-place installed/1; try "place nowhere" 1 fcast-place
 try "place of too much" 1 fcast-place site site; try "place of no name" 1 fcast-place ''
 instance a; rm installed/1; unplaced "place of no file"
