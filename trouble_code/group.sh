@@ -5,6 +5,7 @@ fresh; mkdir one receiver site; echo '<h1>Wind</h1>' >one/index.html; seq 1000 >
 here=fcast-here-$$
 there=fcast-there-$$
 if [ "$(id -u)" = 0 ] && command -v ip >/dev/null && ip netns add $here 2>/dev/null; then
+  trap 'ip netns del $here; ip netns del $there; rm -rf "$room"' EXIT
   ip netns add $there
   ip link add fcast netns $here type veth peer name fcast netns $there
   ip -n $here addr add 192.0.2.1/24 dev fcast; ip -n $here link set fcast up
@@ -25,6 +26,7 @@ if [ "$(id -u)" = 0 ] && command -v ip >/dev/null && ip netns add $here 2>/dev/n
   (cd receiver && fcast-place ../site) >out 2>&1
   diff -r one site >difference || says "recv of a group" "$(cat difference)"
   ip netns del $here; ip netns del $there
+  trap 'rm -rf "$room"' EXIT
 else
   echo "passed over: a group (no root, or no ip netns)"
 fi
