@@ -1,0 +1,12 @@
+//! Rows of whole runs, with their events, status, report and shelf.
+
+mod budgets;
+mod cut_log;
+mod plans;
+mod refusals;
+mod rows;
+mod same;
+mod sessions;
+mod station;
+mod watched;
+mod watchers;
