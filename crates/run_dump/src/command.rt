@@ -5,6 +5,7 @@ ghost use Rattle.run_dump.specs.Dump.{dump_status, dump_line, dump_lines, dumped
 ghost use Rattle.run_base.specs.Endings.{AddsPart, is_base};
 ghost use Rattle.run_base.specs.Bounds.{ending_of};
 ghost use Rattle.run_base.specs.declared.bound.Bound.TheVariants.{Most};
+ghost use Rattle.run_base.specs.declared.ending.Ending.TheVariants.{End};
 ghost use Rattle.run_base.specs.Texts.{ending_line};
 ghost use Rattle.run_base.specs.Answers.{AfterTaking, Blames};
 
@@ -88,8 +89,23 @@ fn tell_line<T: Text>(alloc: Global, text: &mut T, place: u64, datagram: &[u8]) 
     write(text, line.as_str())
 }
 
-/// Writes why the list wasn't read to its end, and answers the status.
+/// Writes why the list wasn't read to its end, where it wasn't, and answers the status.
 fn end<T: Text>(alloc: Global, ending: Ending, text: &mut T) -> Result<u8, Fault>
+    ensures base { IfOk result (λ s. is_base s ≡ true) }
+    ensures status { IfOk result (λ s. s ≡ dump_status ending) }
+    ensures ok { OnOk result (T.told text.old → T.written text.new ≡ T.written text.old ++ ending_line ending) }
+    ensures err { OnErr result (T.told text.old → T.written text.new ≡ T.written text.old) }
+    ensures alone { ending ≡ End → text.new ≡ text.old }
+    ensures blames { Blames result ⊥ (Rose (T.faults text.old) (T.faults text.new)) ⊥ }
+{
+    match ending {
+        Ending::End => Ok(dump_status(ending)),
+        Ending::Torn(_) | Ending::TooMany => tell_ending(alloc, ending, text),
+    }
+}
+
+/// Writes the line of the ending in one piece, and answers the status.
+fn tell_ending<T: Text>(alloc: Global, ending: Ending, text: &mut T) -> Result<u8, Fault>
     ensures base { IfOk result (λ s. is_base s ≡ true) }
     ensures status { IfOk result (λ s. s ≡ dump_status ending) }
     ensures ok { OnOk result (T.told text.old → T.written text.new ≡ T.written text.old ++ ending_line ending) }
