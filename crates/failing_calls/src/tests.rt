@@ -1,0 +1,12 @@
+//! Each device failing at each of its calls, over forms in memory.
+
+mod devices;
+mod dumping;
+mod left;
+mod listening;
+mod receiving;
+mod same;
+mod sending;
+mod sure;
+mod wanting;
+mod wants;
