@@ -46,16 +46,27 @@ fn receive(rt: HostRuntime) -> io::Result<()> {
         let Next::Got(size) = log.next(buffer.as_mut_slice()) else {
             break;
         };
-        let taken = take(&mut receiver, &buffer[..size], &mut steps)?;
-        println!(rt; "{taken:?}")?;
-        if let Some(number) = settle(&mut receiver)? {
-            println!(rt; "installed {number}")?;
-        }
+        take_one(&rt, &mut receiver, &buffer[..size], &mut steps)?;
     }
     match receiver.installed() {
         Some(instance) => print_instance(&rt, instance),
         None => Ok(()),
     }
+}
+
+/// Takes a datagram, and prints what it comes to.
+fn take_one(
+    rt: &impl Print,
+    receiver: &mut Receiver,
+    datagram: &[u8],
+    steps: &mut Steps<()>,
+) -> io::Result<()> {
+    let taken = take(receiver, datagram, steps)?;
+    println!(rt; "{taken:?}")?;
+    if let Some(number) = settle(receiver)? {
+        println!(rt; "installed {number}")?;
+    }
+    Ok(())
 }
 
 /// So many zeros.
