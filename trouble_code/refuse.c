@@ -69,6 +69,8 @@ ssize_t write(int file, const void *bytes, size_t count) {
   if (is_short) return next(file, bytes, count < 1 ? count : 1);
   FAIL(ENOSPC);
 }
+/* The name under which the C library calls it as well. */
+ssize_t __write(int file, const void *bytes, size_t count) { return write(file, bytes, count); }
 int openat(int folder, const char *path, int flags, ...) {
   va_list rest;
   va_start(rest, flags);

@@ -20,8 +20,9 @@ printf hi >f
 small=(--catalog c --symbol 25 --block 2 --maxn 3)
 "$program" send "${small[@]}" >six
 { head -c 8 six; tail -c +68 six | head -c 118; tail -c +245 six | head -c 118; } >four
-# The empty instances 1 and 4.
-{ cat "$log"; head -c 25 "$log" | tail -c 17; printf '\2'; head -c 44 "$log" | tail -c 18; printf '\227'; head -c 64 "$log" | tail -c 19; printf 4; tail -c 5 "$log"; } >two
+# The empty instances 1 and 4, a datagram each.
+printf 'instance\t1\ninstance\t4\n' >empty
+"$program" send --catalog empty --symbol 28 --block 1 --maxn 1 >two
 # A station: three instances, of whose datagrams each third is lost, and the rest comes in reverse order.
 seq 100000 | head -c 4200 >page
 seq 200000 300000 | head -c 4200 >changed
@@ -34,12 +35,11 @@ seq 400000 500000 | head -c 307200 >firmware
 } >stations
 mkdir items
 "$program" send --catalog stations | tail -c +9 | split -a 3 -d -b 1058 - items/
-{
-  head -c 8 "$log"
-  for ((i = $(ls items | wc -l) - 1; i >= 0; i--)); do
-    if [ $((i % 3)) != 2 ]; then printf 'items/%03d\n' "$i"; fi
-  done | xargs cat
-} >station
+items=(items/*)
+head -c 8 "$log" >station
+for ((i = ${#items[@]} - 1; i >= 0; i--)); do
+  if [ $((i % 3)) != 2 ]; then cat "${items[i]}"; fi
+done >>station
 
 # run_refused [VARIABLE=VALUE]..: runs the words over the input, with what stood in the folder before
 run_refused() {
@@ -50,7 +50,7 @@ run_refused() {
   timeout 20 env LD_PRELOAD="$room/refuse.so" "$@" "$program" "${words[@]}" <"$input" >out 2>err
   status=$?
   # What a reader saw depends on when it looked.
-  if [ "${words[0]}" = listen ]; then sed -i '/^reader /d' out; fi
+  if [ "${words[0]:-}" = listen ]; then sed -i '/^reader /d' out; fi
 }
 
 # row NAME INPUT WORD..: a run of these words over this input, as it is where nothing is refused
@@ -65,81 +65,73 @@ row() {
   if [ -d installed ]; then cp -r installed after; fi
 }
 
-# sound NAME STATUS STATUSES: the run ended with one of the statuses, and lost nothing
+# sound NAME STATUSES: the run ended with 0 or one of the statuses, and lost nothing
 sound() {
-  case " 0 $3 " in *" $2 "*) ;; *) says "$1" "status $2" ;; esac
-  if [ "$2" = 0 ]; then
+  case " 0 $2 " in *" $status "*) ;; *) says "$1" "status $status" ;; esac
+  if [ "$status" = 0 ]; then
     cmp -s out whole || says "$1" "another output"
-    diff -r installed after >/dev/null || says "$1" "another folder"
+    if [ -d after ]; then diff -r installed after >/dev/null || says "$1" "another folder"; fi
     return
   fi
   cmp -s -n "$(stat -c %s out)" out whole || says "$1" "the output is no front of the whole"
-  [ ! -e installed/manifest ] || diff -r installed before >/dev/null || diff -r installed after >/dev/null \
-    || says "$1" "a manifest without its files"
+  if [ -e installed/manifest ] && ! diff -r installed before >/dev/null 2>&1 && ! diff -r installed after >/dev/null 2>&1; then
+    says "$1" "a manifest without its files"
+  fi
 }
 
 # refuse KIND STATUSES [short]: refuses each call of this kind in turn, which ends with 0 or one of the statuses
 refuse() {
-  local kind=$1 statuses=$2 short=${3:+REFUSE_SHORT=1} calls at seen=""
-  run_refused REFUSE="$kind" REFUSE_COUNT=calls
+  local kind=$1 statuses=$2 how=("REFUSE=$1") calls at
+  if [ $# = 3 ]; then kind="$1 $3" how+=(REFUSE_SHORT=1); fi
+  run_refused "${how[@]}" REFUSE_COUNT=calls
   calls=$(<calls)
+  : >seen
   for ((at = 1; at <= calls; at++)); do
-    run_refused REFUSE="$kind" REFUSE_AT="$at" $short
-    sound "$row: $kind $at of $calls${3:+ $3}" "$status" "$statuses"
-    seen="$seen $status"
+    run_refused "${how[@]}" REFUSE_AT="$at"
+    sound "$row: $kind $at of $calls" "$statuses"
+    echo "$status" >>seen
   done
-  echo "ok     $row: $kind${3:+ $3}, $calls calls: statuses$(printf '%s\n' $seen | sort -n | uniq | tr '\n' ' ' | sed 's/^/ /')"
+  echo "ok     $row: $kind, $calls calls: statuses $(sort -nu seen | tr '\n' ' ')"
 }
 
-# refuse_shelf: each call on the folder
-refuse_shelf() {
+# refuse_input, refuse_output, refuse_folder: each call on what the words read, on what they write, and on the folder
+refuse_input() { refuse read "$1"; refuse read "" short; }
+refuse_output() { refuse write "$1"; refuse write "" short; }
+refuse_folder() {
   local kind
   for kind in open unlink rename mkdir rmdir fsync; do refuse $kind 6; done
 }
 
 row "a file" four replay
-refuse memory 9
-refuse read 4; refuse read "" short
-refuse write "5 6"; refuse write "" short
-refuse_shelf
+refuse memory 9; refuse_input 4; refuse_output "5 6"; refuse_folder
 
 row "a listening" two listen --readers 2
-refuse memory 9
-refuse read 4; refuse read "" short
-refuse write "5 6"; refuse write "" short
-refuse_shelf
+refuse memory 9; refuse_input 4; refuse_output "5 6"; refuse_folder
 
 row "a dump" "$log" dump
-refuse memory 9
-refuse read 4; refuse read "" short
-refuse write 5; refuse write "" short
+refuse memory 9; refuse_input 4; refuse_output 5
 
 row "a send" /dev/null send "${small[@]}"
-refuse memory 9
-refuse open 12; refuse read 12; refuse read "" short
-refuse write 5; refuse write "" short
+refuse memory 9; refuse open 12; refuse_input 12; refuse_output 5
 
 row "a send to an address" /dev/null send "${small[@]}" --addr 127.0.0.1 --port 9
 refuse sendto 5; refuse sendto 5 short
 
 row "a station's send" /dev/null send --catalog stations
-refuse open 12; refuse read 12; refuse write 5
+refuse open 12; refuse_input 12; refuse_output 5
 
 row "a station" station replay
-refuse memory 9
-refuse read 4
-refuse_shelf
+refuse memory 9; refuse_input 4; refuse_output "5 6"; refuse_folder
 
 rm -rf before
 row "an empty instance, and no folder" "$log" replay
-refuse memory 9
-refuse_shelf
+refuse memory 9; refuse_input 4; refuse_output "5 6"; refuse_folder
 
 # A receiver that is called again where it found no memory comes to the same.
-again=$(dirname "$built")/../../take_again/out/take_again
+again=$top/crates/take_again/out/take_again
 if [ -x "$again" ]; then
   program=$again
-  row "taken again" four
+  row "a file taken again" four
   refuse memory 9
   row "a station taken again" station
   refuse memory 9
