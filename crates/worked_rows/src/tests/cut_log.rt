@@ -33,7 +33,7 @@ fn torn_at(length: usize) -> Option<usize> {
 /// How many events come of so many datagrams: one each, and with the fifth that the instance is installed.
 fn events_of(whole: usize) -> u64 {
     if whole >= 5 {
-        whole as u64 + 1
+        (whole as u64).saturating_add(1)
     } else {
         whole as u64
     }
@@ -58,12 +58,8 @@ fn outcome_of(length: usize, torn: Option<&str>) -> Outcome<'_> {
 }
 
 /// Replays the first bytes of the log, so many.
-fn replays_first(
-    rt: &impl Abort,
-    alloc: Global,
-    log: &[u8],
-    length: usize,
-) -> Result<(), AllocError> {
+fn replays_first(rt: &impl Abort, alloc: Global, log: &[u8], row: u32) -> Result<(), AllocError> {
+    let length = row as usize;
     let line = match torn_at(length) {
         Some(at) => Some(format!(in alloc; "torn at {at}\n")?),
         None => None,
@@ -71,7 +67,6 @@ fn replays_first(
     let torn = line.as_ref().map(|line| line.as_str());
     let first = log.get(..length).unwrap_or(b"");
     let ran = play(alloc, &["replay"], first, false, NONE)?;
-    let row = length as u32;
     same(rt, &is(&ran, &outcome_of(length, torn)), &true, row);
     same(rt, &ran.heard, &Some(events_of(whole_in(length))), row);
     same(rt, &ran.edge.shelf.calls.made, &calls_at(length), row);
@@ -88,7 +83,7 @@ fn a_log_is_cut_at_each_byte(rt: HostRuntime) -> Result<(), Fail> {
     let packets = packets_of(rt.alloc(), &ALL)?;
     let log = log_of_packets(rt.alloc(), packets.as_slice())?;
     same(&rt, &log.len(), &362, 1_000);
-    for length in 0..=362 {
+    for length in 0..=362u32 {
         replays_first(&rt, rt.alloc(), log.as_slice(), length)?;
     }
     Ok(())

@@ -3,7 +3,7 @@
 ghost use Rattle.std.specs.Prelude.{None, ◌≤◌, IfOk, vec_len};
 
 use super::same::same;
-use edge_io::{FileFault, Files, MemEmit, MemText, SureDatagrams, SureShelf};
+use edge_io::{FileFault, Files, MemEmit, MemText, SureDatagrams, SureFiles, SureShelf};
 use fcast_run::{Edge, run};
 use std::alloc::{AllocError, Global};
 use std::process::Abort;
@@ -56,7 +56,8 @@ const FILE_SIZE: usize = 16_777_216;
 /// A catalog, and the largest file under each other name.
 #[derive(Drop)]
 struct LargeFiles {
-    catalog: String,
+    alloc: Global,
+    catalog: SureFiles,
     reads: u64,
 }
 
@@ -67,16 +68,14 @@ impl Files for LargeFiles {
 
     ghost faults = { λ _. 0 };
 
-    ghost misses = { λ _. 0 };
+    ghost misses = { λ s. s.catalog.misses };
 
     fn read(&mut self, name: &str) -> Result<Vec<u8>, FileFault> {
         self.reads = self.reads.saturating_add(1);
-        let alloc = *self.catalog.allocator();
         if name == "c" {
-            Ok(Vec::from_slice(alloc, self.catalog.as_bytes())?)
-        } else {
-            Ok(large_file(alloc, FILE_SIZE)?)
+            return self.catalog.read(name);
         }
+        Ok(large_file(self.alloc, FILE_SIZE)?)
     }
 }
 
@@ -87,14 +86,20 @@ fn large_file(alloc: Global, size: usize) -> Result<Vec<u8>, AllocError>
     vec![in alloc; 0u8; size]
 }
 
-/// The lines of so many files, each of its own name and location.
-fn files_apart(alloc: Global, count: u32) -> Result<String, AllocError> {
-    let mut text = String::from_str(alloc, "instance\t1\n")?;
+/// A catalog of so many files, each of its own name and location.
+fn large_files(alloc: Global, count: u32) -> Result<LargeFiles, AllocError> {
+    let mut text = Vec::from_slice(alloc, b"instance\t1\n")?;
     for place in 0..count {
         let line = format!(in alloc; "file\tf{place}\ta{place}\n")?;
-        text.push_str(line.as_str())?;
+        text.extend_from_slice(line.as_bytes())?;
     }
-    Ok(text)
+    let mut files = Vec::new(alloc);
+    files.push((String::from_str(alloc, "c")?, text))?;
+    Ok(LargeFiles {
+        alloc,
+        catalog: SureFiles::new(files),
+        reads: 0,
+    })
 }
 
 /// Seventeen files of the largest size are more than a session may have. The eighteenth isn't read.
@@ -105,10 +110,7 @@ fn a_session_of_too_many_bytes(rt: HostRuntime) -> Result<(), Fail> {
     let mut edge = Edge {
         datagrams: SureDatagrams::new(Vec::new(alloc), None),
         emit: MemEmit::new(Vec::new(alloc), Vec::new(alloc)),
-        files: LargeFiles {
-            catalog: files_apart(alloc, 18)?,
-            reads: 0,
-        },
+        files: large_files(alloc, 18)?,
         shelf: SureShelf::new(alloc, None),
         text: MemText::new(Vec::new(alloc), Vec::new(alloc)),
     };
