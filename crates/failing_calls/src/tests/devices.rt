@@ -43,6 +43,11 @@ pub const NONE: Failing = Failing {
     call: 0,
 };
 
+/// The call of this number of the device fails.
+pub fn fails(device: Device, call: u32) -> Failing {
+    Failing { device, call }
+}
+
 impl Failing {
     /// The calls of this device that fail.
     pub fn calls_of(&self, alloc: Global, device: Device) -> Result<Vec<u32>, AllocError> {

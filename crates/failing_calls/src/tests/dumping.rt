@@ -1,7 +1,7 @@
 //! Dumps and drills.
 
-use super::devices::Device::{self, Source, Text};
-use super::devices::{Failing, Log, NONE, log_reader, outside, run_words, sink, source};
+use super::devices::Device::{Source, Text};
+use super::devices::{Failing, Log, NONE, fails, log_reader, outside, run_words, sink, source};
 use super::left::{Left, UNTOUCHED, leaves};
 use std::alloc::{AllocError, Global};
 use std::process::Abort;
@@ -12,10 +12,6 @@ use worked_runs::texts::joined;
 /// The line of the empty instance's datagram, but for its place.
 const LINE: &str =
     " symbol tsi 1 toi 1 sbn 0 esi 0 length 28 size 28 block 1 maxn 1 bytes 28 close 0 data 03009afa0000001946636173742d4349\n";
-
-fn fails(device: Device, call: u32) -> Failing {
-    Failing { device, call }
-}
 
 /// What is left with this status and text, where source and text were called so often.
 fn left(status: u8, text: &str, sources: u64, texts: u64) -> Left<'_> {

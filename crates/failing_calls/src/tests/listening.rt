@@ -1,7 +1,7 @@
 //! Runs of `listen`, with one reader.
 
-use super::devices::Device::{self, Shelf, Source, Text};
-use super::devices::{Ended, Failing, Log, log_reader, outside, sink};
+use super::devices::Device::{Shelf, Source, Text};
+use super::devices::{Ended, Failing, Log, fails, log_reader, outside, sink};
 use super::left::{Left, UNTOUCHED, leaves};
 use edge_io::{LogReader, MemBytes, MemEmit};
 use fcast_run::{Wide, run_listen};
@@ -12,10 +12,6 @@ use std::test::Fail;
 use std::thread::Threads;
 use worked_runs::logs::log_of_copies;
 use worked_runs::playing::{REPORT_OF_1, labels_of};
-
-fn fails(device: Device, call: u32) -> Failing {
-    Failing { device, call }
-}
 
 /// Listens to this log with one reader.
 fn listen<R: Threads + Wait + Copy + Send + 'static>(

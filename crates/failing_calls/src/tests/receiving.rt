@@ -1,7 +1,7 @@
 //! Runs that receive.
 
 use super::devices::Device::{self, Shelf, Source, Text};
-use super::devices::{Failing, Log, NONE, log_reader, outside, run_words, sink, source};
+use super::devices::{Failing, Log, NONE, fails, log_reader, outside, run_words, sink, source};
 use super::left::{Held, Left, UNTOUCHED, leaves};
 use std::alloc::{AllocError, Global};
 use std::process::Abort;
@@ -67,10 +67,6 @@ fn at_source(call: u32) -> Left<'static> {
         shelf: UNTOUCHED,
         made: [u64::from(call), 0, 0, 0, 0],
     }
-}
-
-fn fails(device: Device, call: u32) -> Failing {
-    Failing { device, call }
 }
 
 /// The call that fails behind the source (0 for none), the status, the text, what the shelf holds, and how often shelf

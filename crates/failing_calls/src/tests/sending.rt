@@ -1,7 +1,7 @@
 //! Runs that send.
 
-use super::devices::Device::{self, Files, Sink, Text};
-use super::devices::{Ended, Failing, Log, NONE, log_reader, outside, run_words, sink};
+use super::devices::Device::{Files, Sink, Text};
+use super::devices::{Ended, Failing, Log, NONE, fails, log_reader, outside, run_words, sink};
 use super::left::{Left, UNTOUCHED, leaves};
 use super::same::same;
 use edge_io::{LogReader, LogWriter, MemBytes, MemEmit, MemText};
@@ -13,13 +13,13 @@ use worked_runs::pieces::{ALL, packets_of};
 use worked_runs::sending::are_first;
 
 /// An instance with one file.
-const CATALOG: (&str, &[u8]) = ("c", b"instance\t1\nfile\tf\ta\n");
+pub const CATALOG: (&str, &[u8]) = ("c", b"instance\t1\nfile\tf\ta\n");
 
 /// That file.
-const HI: (&str, &[u8]) = ("f", b"hi");
+pub const HI: (&str, &[u8]) = ("f", b"hi");
 
 /// The words that send it in blocks of two symbols of 25 bytes, with one repair symbol each.
-const SEND: [&str; 9] = [
+pub const SEND: [&str; 9] = [
     "send",
     "--catalog",
     "c",
@@ -36,10 +36,6 @@ const NO_LOG: Log<'static> = Log {
     bytes: b"",
     one_by_one: false,
 };
-
-fn fails(device: Device, call: u32) -> Failing {
-    Failing { device, call }
-}
 
 /// What a send leaves with this status and line, where files, sink and text were called so often.
 fn left(status: u8, text: &str, files: u64, sinks: u64, texts: u64) -> Left<'_> {

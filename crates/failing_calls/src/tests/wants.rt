@@ -1,9 +1,10 @@
 //! Calls for which there is no memory.
 
 use super::devices::Device::{self, Files, Shelf, Sink, Text};
-use super::devices::{Failing, NONE, OLD, named, old_instance};
+use super::devices::{Failing, NONE, OLD, fails, named, old_instance};
 use super::left::Held;
 use super::same::same;
+use super::sending::{CATALOG, HI, SEND};
 use super::wanting::{WantingEmit, WantingFiles, WantingShelf, WantingText, WantingWatcher};
 use edge_io::{Calls, LogReader, SureBytes, SureEmit, SureFiles, SureShelf, SureText};
 use fcast_run::{Edge, run};
@@ -60,10 +61,6 @@ fn run_words(alloc: Global, words: &[&str], edge: &mut Outside) -> Result<u8, Al
     Ok(run(alloc, words.as_slice(), edge, &mut watchers))
 }
 
-fn wants(device: Device, call: u32) -> Failing {
-    Failing { device, call }
-}
-
 /// What the shelf holds.
 fn held(shelf: &SureShelf) -> Held {
     let finished = shelf.finished().map(|instance| instance.number());
@@ -92,28 +89,12 @@ fn replays(
 #[test]
 fn shelf_and_report(rt: HostRuntime) -> Result<(), Fail> {
     let alloc = rt.alloc();
-    replays(&rt, alloc, wants(Shelf, 1), (Some(OLD), 0, 0), 1)?;
-    replays(&rt, alloc, wants(Shelf, 2), (None, 1, 0), 2)?;
-    replays(&rt, alloc, wants(Shelf, 3), (None, 1, 1), 3)?;
-    replays(&rt, alloc, wants(Text, 1), (Some(1), 1, 1), 4)?;
+    replays(&rt, alloc, fails(Shelf, 1), (Some(OLD), 0, 0), 1)?;
+    replays(&rt, alloc, fails(Shelf, 2), (None, 1, 0), 2)?;
+    replays(&rt, alloc, fails(Shelf, 3), (None, 1, 1), 3)?;
+    replays(&rt, alloc, fails(Text, 1), (Some(1), 1, 1), 4)?;
     Ok(())
 }
-
-/// An instance with one file, and that file.
-const FILES: [(&str, &[u8]); 2] = [("c", b"instance\t1\nfile\tf\ta\n"), ("f", b"hi")];
-
-/// The words that send it in blocks of two symbols of 25 bytes, with one repair symbol each.
-const SEND: [&str; 9] = [
-    "send",
-    "--catalog",
-    "c",
-    "--symbol",
-    "25",
-    "--block",
-    "2",
-    "--maxn",
-    "3",
-];
 
 /// A send that has no memory at this call sends the first datagrams, so many.
 fn sends(
@@ -123,7 +104,7 @@ fn sends(
     count: usize,
     row: u32,
 ) -> Result<(), AllocError> {
-    let mut edge = outside(alloc, b"", &FILES, wanting)?;
+    let mut edge = outside(alloc, b"", &[CATALOG, HI], wanting)?;
     same(rt, &run_words(alloc, &SEND, &mut edge)?, &9, row);
     let all = packets_of(alloc, &ALL)?;
     let sent = edge.emit.sink.sent.as_slice();
@@ -135,11 +116,11 @@ fn sends(
 #[test]
 fn files_and_sink(rt: HostRuntime) -> Result<(), Fail> {
     let alloc = rt.alloc();
-    sends(&rt, alloc, wants(Files, 1), 0, 11)?;
-    sends(&rt, alloc, wants(Files, 2), 0, 12)?;
+    sends(&rt, alloc, fails(Files, 1), 0, 11)?;
+    sends(&rt, alloc, fails(Files, 2), 0, 12)?;
     for call in 1..=7u32 {
         let count = call.saturating_sub(2) as usize;
-        sends(&rt, alloc, wants(Sink, call), count, 13)?;
+        sends(&rt, alloc, fails(Sink, call), count, 13)?;
     }
     Ok(())
 }
@@ -154,7 +135,7 @@ fn lines(
     row: u32,
 ) -> Result<(), AllocError> {
     let log = log_of_copies(alloc, 2)?;
-    let mut edge = outside(alloc, log.as_slice(), &[], wants(Text, call))?;
+    let mut edge = outside(alloc, log.as_slice(), &[], fails(Text, call))?;
     same(rt, &run_words(alloc, words, &mut edge)?, &9, row);
     let written = edge.text.text.written();
     let found = written.iter().filter(|byte| **byte == b'\n').count();
