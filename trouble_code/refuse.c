@@ -30,7 +30,7 @@ __attribute__((constructor)) static void begin(void) {
 }
 
 __attribute__((destructor)) static void end(void) {
-  const char *path = getenv("REFUSE_COUNT");
+  const char *path = counted ? getenv("REFUSE_COUNT") : NULL;
   counted = NULL;
   if (path) {
     int file = creat(path, 0644);
@@ -47,6 +47,14 @@ static int due(const char *kind) {
 /* The next function of this name, with the type of the one here. */
 #define NEXT(name) static __typeof__(&name) next; if (!next) next = (__typeof__(&name))dlsym(RTLD_NEXT, #name)
 #define FAIL(error) do { errno = (error); return -1; } while (0)
+
+/* A program that ends so doesn't come to `end` else. */
+void _exit(int status) {
+  NEXT(_exit);
+  end();
+  next(status);
+  __builtin_unreachable();
+}
 
 void *malloc(size_t size) { if (due("memory")) { errno = ENOMEM; return NULL; } return __libc_malloc(size); }
 void *calloc(size_t count, size_t size) { if (due("memory")) { errno = ENOMEM; return NULL; } return __libc_calloc(count, size); }
@@ -71,11 +79,16 @@ ssize_t write(int file, const void *bytes, size_t count) {
 }
 /* The name under which the C library calls it as well. */
 ssize_t __write(int file, const void *bytes, size_t count) { return write(file, bytes, count); }
+/* The mode that follows the flags, where there is one. */
+#define MODE(mode) va_list rest; va_start(rest, flags); mode_t mode = va_arg(rest, mode_t); va_end(rest)
+int open(const char *path, int flags, ...) {
+  MODE(mode);
+  NEXT(open);
+  if (due("open")) FAIL(EIO);
+  return next(path, flags, mode);
+}
 int openat(int folder, const char *path, int flags, ...) {
-  va_list rest;
-  va_start(rest, flags);
-  mode_t mode = va_arg(rest, mode_t);
-  va_end(rest);
+  MODE(mode);
   NEXT(openat);
   if (due("open")) FAIL(EIO);
   return next(folder, path, flags, mode);

@@ -83,8 +83,10 @@ sound() {
 refuse() {
   local kind=$1 statuses=$2 how=("REFUSE=$1") calls at
   if [ $# = 3 ]; then kind="$1 $3" how+=(REFUSE_SHORT=1); fi
+  rm -f calls
   run_refused "${how[@]}" REFUSE_COUNT=calls
-  calls=$(<calls)
+  [ -s calls ] || says "$row: $kind" "the calls weren't counted"
+  calls=$(cat calls)
   : >seen
   for ((at = 1; at <= calls; at++)); do
     run_refused "${how[@]}" REFUSE_AT="$at"
