@@ -18,11 +18,11 @@ echo 'instance 7' >before/manifest
 printf 'instance\t1\nfile\tf\ta\n' >c
 printf hi >f
 small=(--catalog c --symbol 25 --block 2 --maxn 3)
-"$program" send "${small[@]}" >six
+"$program" send "${small[@]}" >six 2>err
 { head -c 8 six; tail -c +68 six | head -c 118; tail -c +245 six | head -c 118; } >four
 # The empty instances 1 and 4, a datagram each.
 printf 'instance\t1\ninstance\t4\n' >empty
-"$program" send --catalog empty --symbol 28 --block 1 --maxn 1 >two
+"$program" send --catalog empty --symbol 28 --block 1 --maxn 1 >two 2>err
 # A station: three instances, of whose datagrams each third is lost, and the rest comes in reverse order.
 seq 100000 | head -c 4200 >page
 seq 200000 300000 | head -c 4200 >changed
@@ -34,7 +34,7 @@ seq 400000 500000 | head -c 307200 >firmware
   printf 'instance\t3\nfile\tchanged\tindex.html\nfile\tpicture\tsky.jpg\nfile\tfirmware\tnode.bin\n'
 } >stations
 mkdir items
-"$program" send --catalog stations | tail -c +9 | split -a 3 -d -b 1058 - items/
+"$program" send --catalog stations 2>err | tail -c +9 | split -a 3 -d -b 1058 - items/
 items=(items/*)
 head -c 8 "$log" >station
 for ((i = ${#items[@]} - 1; i >= 0; i--)); do
