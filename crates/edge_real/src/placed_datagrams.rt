@@ -27,15 +27,17 @@ pub struct PlacedDatagrams<B: Bytes, N: Net + Drop> {
 }
 
 impl<B: Bytes, N: Net + Drop> PlacedDatagrams<B, N> {
-    /// The datagrams of this log, or of a socket of this network.
-    pub fn new(source: B, net: N) -> PlacedDatagrams<B, N>
+    /// The datagrams of this log, or of a socket of this network, at which `idle` seconds without a
+    /// datagram are the end.
+    pub fn new(source: B, net: N, idle: Option<u32>) -> PlacedDatagrams<B, N>
         ensures source { result.log.source ≡ source }
+        ensures idle { result.udp.idle ≡ idle }
         ensures connected { result.connected ≡ None }
         ensures failures { result.failures ≡ 0 }
     {
         PlacedDatagrams {
             log: LogReader::new(source),
-            udp: UdpDatagrams::new(net),
+            udp: UdpDatagrams::new(net, idle),
             connected: None,
             failures: 0,
         }
@@ -43,6 +45,7 @@ impl<B: Bytes, N: Net + Drop> PlacedDatagrams<B, N> {
 
     /// Connects at the place. The count stays.
     fn connect_at(&mut self, place: &Place) -> Result<(), Failed>
+        ensures idle { self.new.udp.idle ≡ self.old.udp.idle }
         ensures ok { OnOk result (self.new.connected ≡ Some place.now) }
         ensures err { OnErr result (self.new.connected ≡ self.old.connected) }
         ensures unread { IsUdp (Some place.now) → self.new.log ≡ self.old.log }
@@ -62,6 +65,8 @@ impl<B: Bytes, N: Net + Drop> PlacedDatagrams<B, N> {
     /// Asks the place for the next datagram. The count stays.
     fn next_there(&mut self, buffer: &mut [u8]) -> Next
         requires { 65535 ≤ length buffer.old }
+        ensures idle { self.new.udp.idle ≡ self.old.udp.idle }
+        ensures endless { IsUdp self.old.connected → self.old.udp.idle ≡ None → result ≢ Next.End }
         ensures within { IsWithin result buffer.new }
         ensures place { self.new.connected ≡ self.old.connected }
         ensures unread { IsUdp self.old.connected → self.new.log ≡ self.old.log }
@@ -87,6 +92,7 @@ impl<B: Bytes, N: Net + Drop> Datagrams for PlacedDatagrams<B, N> {
     ghost faults = { λ s. s.failures };
 
     fn connect(&mut self, place: &Place) -> Result<(), Failed>
+        ensures idle { self.new.udp.idle ≡ self.old.udp.idle }
         ensures ok { OnOk result (self.new.connected ≡ Some place.now) }
         ensures err { OnErr result (self.new.connected ≡ self.old.connected) }
         ensures unread { IsUdp (Some place.now) → self.new.log ≡ self.old.log }
@@ -104,6 +110,8 @@ impl<B: Bytes, N: Net + Drop> Datagrams for PlacedDatagrams<B, N> {
 
     fn next(&mut self, buffer: &mut [u8]) -> Next
         requires { 65535 ≤ length buffer.old }
+        ensures idle { self.new.udp.idle ≡ self.old.udp.idle }
+        ensures endless { IsUdp self.old.connected → self.old.udp.idle ≡ None → result ≢ Next.End }
         ensures within { IsWithin result buffer.new }
         ensures place { self.new.connected ≡ self.old.connected }
         ensures unread { IsUdp self.old.connected → self.new.log ≡ self.old.log }

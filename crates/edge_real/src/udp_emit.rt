@@ -5,7 +5,7 @@ ghost use Rattle.edge_io.specs.Faults.{Rose, one_more};
 
 use crate::Failures;
 use crate::pace::Pace;
-use crate::tries::TRIES;
+use crate::tries::{TRIES, interrupted_each_time};
 use edge_io::{Emit, Place, Trouble};
 use std::io::ErrorKind;
 use std::net::{Ipv4Addr, Net, UdpSocket};
@@ -159,5 +159,5 @@ fn send_whole(socket: &UdpSocket, peer: (Ipv4Addr, u16), datagram: &[u8]) -> io:
             Err(error) => return Err(error),
         }
     }
-    Err(io::Error::from(ErrorKind::Interrupted))
+    Err(interrupted_each_time())
 }

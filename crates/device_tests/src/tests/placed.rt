@@ -15,7 +15,7 @@ type Source = PlacedDatagrams<SureBytes, HostRuntime>;
 
 fn source_of(rt: HostRuntime, alloc: Global) -> Result<Source, AllocError> {
     let log = Vec::from_slice(alloc, b"FCASTLG1\x00\x02hi\x00\x03all")?;
-    Ok(PlacedDatagrams::new(SureBytes::new(log), rt))
+    Ok(PlacedDatagrams::new(SureBytes::new(log), rt, None))
 }
 
 /// Listens at a port that the system chooses, and reads a datagram that is sent there.
@@ -49,7 +49,7 @@ fn source_is_chosen_by_place(rt: HostRuntime) -> Result<(), Fail> {
 #[test]
 fn failed_connect_keeps_the_source(rt: HostRuntime) -> Result<(), Fail> {
     let mut buffer = [0u8; 65_535];
-    let mut taken = UdpDatagrams::new(rt);
+    let mut taken = UdpDatagrams::new(rt, None);
     let port = listen(&rt, &mut taken, 11);
     let mut source = source_of(rt, rt.alloc())?;
     same(&rt, &source.connect(&Place::Log), &Ok(()), 12);
@@ -78,7 +78,7 @@ fn compare(rt: &impl Abort, sink: &Sink, written: &[u8], failures: u64, row: u32
 #[test]
 fn sink_is_chosen_by_place(rt: HostRuntime) -> Result<(), Fail> {
     let mut buffer = [0u8; 65_535];
-    let mut source = UdpDatagrams::new(rt);
+    let mut source = UdpDatagrams::new(rt, None);
     let port = listen(&rt, &mut source, 17);
     let mut sink = sink_of(rt, rt.alloc(), 0)?;
     same(&rt, &sink.connect(&local(port)), &Ok(()), 18);
@@ -97,7 +97,7 @@ fn sink_is_chosen_by_place(rt: HostRuntime) -> Result<(), Fail> {
 fn failed_connect_keeps_the_sink(rt: HostRuntime) -> Result<(), Fail> {
     let mut buffer = [0u8; 65_535];
     let failed = Err(Trouble::Failed);
-    let mut source = UdpDatagrams::new(rt);
+    let mut source = UdpDatagrams::new(rt, None);
     let port = listen(&rt, &mut source, 25);
     let mut sink = sink_of(rt, rt.alloc(), 1)?;
     same(&rt, &sink.connect(&local(port)), &Ok(()), 26);
