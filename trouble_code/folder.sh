@@ -49,20 +49,22 @@ for ((round = 0; round < 200; round++)); do
 done 2>/dev/null
 echo "ok     signals at 200 times within $((taken / 1000)) ms: $olds old, $news new, $neither neither"
 
-# A stop before each system call that names a file, writes or syncs.
-if command -v strace >/dev/null && (fresh; strace -o /dev/null true) 2>/dev/null; then
+# A stop before each system call that names a file, writes, syncs or closes.
+fresh; cp -r "$room/few/old" installed
+calls=%file,write,fsync,close
+if command -v strace >/dev/null && strace -f -o trace -e "trace=$calls" "$program" replay <"$room/few/new.log" >out 2>err; then
+  is_new few || says "a run that is traced" "$(head -c 300 difference)"
   stops=0
-  for ((call = 1; call < 1000; call++)); do
-    fresh; cp -r "$room/few/old" installed
-    strace -f -o /dev/null -e "inject=%file,write,fsync,close:signal=KILL:when=$call" "$program" replay <"$room/few/new.log" >out 2>err
-    status=$?
-    [ $status = 0 ] && break
-    stops=$((stops + 1))
-    recovers "a stop before call $call" few
+  for name in $(sed -n 's/^[0-9]* *\([a-z0-9_]*\)(.*/\1/p' trace | grep -v '^exec' | sort -u); do
+    for ((number = 1; number < 1000; number++)); do
+      fresh; cp -r "$room/few/old" installed
+      strace -f -o /dev/null -e "inject=$name:signal=KILL:when=$number" "$program" replay <"$room/few/new.log" >out 2>err && break
+      stops=$((stops + 1))
+      recovers "a stop before $name $number" few
+    done
   done 2>/dev/null
-  is_new few || says "a stop after all calls" "$(head -c 300 difference)"
   echo "ok     stops before each of $stops system calls"
-  [ "$stops" -gt 50 ] || says "stops before each system call" "there are too few"
+  [ "$stops" -gt 80 ] || says "stops before each system call" "there are too few"
 else
   echo "passed over: stops between system calls (no strace)"
 fi

@@ -21,14 +21,14 @@ const ROOM: i32 = 4_194_304;
 /// `idle` seconds after the last of them, or where `idle` is `None` never.
 ///
 /// `connect` binds a socket to the address, and asks the system for a receive buffer of 4 MiB. A
-/// packet log is no address, so that it fails there. `next` waits until a datagram comes, for the
+/// packet log is no address, so that it fails there, and so it does without a network. `next` waits until a datagram comes, for the
 /// first as long as it takes, and fails where no socket is bound. An empty datagram is one of 0
 /// bytes. Over IPv4 a datagram has at most 65,507 bytes, so each fits the buffer; of one that
 /// doesn't the system would drop the rest.
 #[derive(Drop)]
 pub struct UdpDatagrams<N: Net + Drop> {
-    /// What opens sockets.
-    net: N,
+    /// What opens sockets, where anything does.
+    pub net: Option<N>,
     /// The socket that is bound.
     socket: Option<UdpSocket>,
     /// How many seconds without a datagram are their end.
@@ -43,7 +43,8 @@ pub struct UdpDatagrams<N: Net + Drop> {
 
 impl<N: Net + Drop> UdpDatagrams<N> {
     /// No socket is bound yet. So many seconds without a datagram will be their end.
-    pub fn new(net: N, idle: Option<u32>) -> UdpDatagrams<N>
+    pub fn new(net: Option<N>, idle: Option<u32>) -> UdpDatagrams<N>
+        ensures net { result.net ≡ net }
         ensures idle { result.idle ≡ idle }
         ensures heard { result.heard ≡ false }
         ensures connected { result.connected ≡ None }
@@ -70,6 +71,7 @@ impl<N: Net + Drop> UdpDatagrams<N> {
 
     /// Closes the socket, where there is one. What waits in it is lost.
     pub fn close(&mut self)
+        ensures net { self.new.net ≡ self.old.net }
         ensures idle { self.new.idle ≡ self.old.idle }
         ensures heard { self.new.heard ≡ false }
         ensures connected { self.new.connected ≡ None }
@@ -106,6 +108,8 @@ impl<N: Net + Drop> Datagrams for UdpDatagrams<N> {
     /// The socket of an earlier `connect` is closed where this one answers `Ok`, and stays where it
     /// fails. A port that this or another program has already is a failure.
     fn connect(&mut self, place: &Place) -> Result<(), Failed>
+        ensures net { self.new.net ≡ self.old.net }
+        ensures unreached { self.old.net ≡ None → IsErr result }
         ensures idle { self.new.idle ≡ self.old.idle }
         ensures unheard { OnOk result (self.new.heard ≡ false) }
         ensures ok { OnOk result (self.new.connected ≡ Some place.now) }
@@ -133,6 +137,7 @@ impl<N: Net + Drop> Datagrams for UdpDatagrams<N> {
     /// datagram begins anew.
     fn next(&mut self, buffer: &mut [u8]) -> Next
         requires { 65535 ≤ length buffer.old }
+        ensures net { self.new.net ≡ self.old.net }
         ensures idle { self.new.idle ≡ self.old.idle }
         ensures endless { self.old.idle ≡ None → result ≢ Next.End }
         ensures first { self.old.heard ≡ false → result ≢ Next.End }
@@ -159,9 +164,14 @@ impl<N: Net + Drop> Datagrams for UdpDatagrams<N> {
 }
 
 /// A socket that is bound to the address.
-fn listen<N: Net>(net: &N, place: &Place) -> io::Result<UdpSocket> {
+fn listen<N: Net>(net: &Option<N>, place: &Place) -> io::Result<UdpSocket>
+    ensures unreached { net.now ≡ None → IsErr result }
+{
     let Place::Udp { ip, port } = *place else {
         return Err(io::Error::from(ErrorKind::InvalidInput));
+    };
+    let Some(net) = net else {
+        return Err(io::Error::from(ErrorKind::Unsupported));
     };
     let socket = UdpSocket::bind(net, (Ipv4Addr::from(ip), port))?;
     ask_room(&socket);

@@ -102,9 +102,11 @@ fn run_outside<R: Threads + Wait + Copy + Send + 'static>(
     let output = BufWriter::with_capacity(alloc, PIECE, Tried::new(rt.stdout()))?;
     // What a send writes to the text would be lost in the log, or not be missed where that goes into a file.
     let echo = is_command(words, "send").then_some(Tried::new(rt.stderr()));
+    // Words without an address get no network.
+    let net = has_address(words).then_some(rt);
     let mut edge = Edge {
-        datagrams: PlacedDatagrams::new(ReaderBytes::new(input), rt, settings.idle),
-        emit: PlacedEmit::new(alloc, WriterText::new(log), rt, settings.rate),
+        datagrams: PlacedDatagrams::new(ReaderBytes::new(input), net, settings.idle),
+        emit: PlacedEmit::new(alloc, WriterText::new(log), net, settings.rate),
         files: FolderFiles::new(rt),
         shelf,
         text: EchoedText::new(WriterText::new(output), echo),
@@ -173,6 +175,11 @@ fn tell_unclear(rt: HostRuntime, shelf: &FolderShelf<HostRuntime>, trouble: Trou
 /// Says whether this is the first of the words.
 fn is_command(words: &[Label], name: &str) -> bool {
     words.first().is_some_and(|word| word.as_str() == name)
+}
+
+/// Says whether an address is among the words. No value begins with a hyphen, so this word is the option.
+fn has_address(words: &[Label]) -> bool {
+    words.iter().any(|word| word.as_str() == "--addr")
 }
 
 /// The status of a run after a text was flushed at its end.
