@@ -28,10 +28,10 @@ fn take_steps<R: Files + AllocGlobal + Abort>(
     steps: u32,
 ) -> io::Result<()> {
     if steps >= 1 {
-        same(rt, &shelf.begin(2), &Ok(()), 10 + steps);
+        same(rt, &shelf.begin(2), &Ok(()), 10);
     }
     if steps >= 2 {
-        same(rt, &shelf.put(8, b"new"), &Ok(()), 20 + steps);
+        same(rt, &shelf.put(8, b"new"), &Ok(()), 20);
     }
     if steps >= 3 {
         seal_part(rt, FOLDER, b"two")?;
