@@ -15,7 +15,11 @@ const FOLDER: &str = "shelf_stopped";
 const PART: &str = "shelf_stopped.part";
 
 /// Installs the old instance: a file and a manifest.
-fn install_old(rt: &impl Abort, shelf: &mut FolderShelf<HostRuntime>, row: u32) {
+fn install_old<R: Files + AllocGlobal + Clone + Drop>(
+    rt: &impl Abort,
+    shelf: &mut FolderShelf<R>,
+    row: u32,
+) {
     same(rt, &shelf.begin(1), &Ok(()), row);
     same(rt, &shelf.put(7, b"old"), &Ok(()), row);
     same(rt, &shelf.finish(b"one"), &Ok(()), row);
