@@ -1,8 +1,6 @@
-//! The forms over real devices: over readers and writers that fail, folders of the tests' own, and the loopback device.
+//! The forms over real devices: over readers and writers that fail, and the loopback device.
 
 mod devices;
-mod folder;
-mod folder_files;
 mod logs;
 mod pace;
 mod placed;

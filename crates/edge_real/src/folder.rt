@@ -1,47 +1,54 @@
-//! A folder that holds an instance: emptied, filled and sealed.
+//! A folder that holds an instance: a new one is written beside it, and the two are exchanged.
 //!
-//! What a link points to is never touched: `symlink_metadata` and the entries' own types don't
-//! follow links, and `File::create_new` refuses one. Another process that changes the folder
-//! between two calls isn't guarded against.
+//! While a run is at work on the folder F, the folder F.part stands beside it: F.part/new is what is
+//! being written, and F.part/old is what stood in F, from the exchange on. So F holds the old
+//! instance or the whole new one, or for the moment between two renames isn't there; a run that is
+//! stopped then leaves the old one in F.part/old, and the next puts it back.
+//!
+//! What a link points to is never touched: `symlink_metadata` doesn't follow links, and
+//! `File::create_new` refuses one. Another process that changes the folders between two calls isn't
+//! guarded against.
 
+use crate::Tried;
+use crate::emptying::{empty_folder, move_up};
 use std::alloc::AllocError;
 use std::fs::{File, OpenFile};
 use std::io::{ErrorKind, Write};
 use std::rt::Files;
 use std::{fs, io};
 
-/// The most entries that are handled before a folder counts as one that can't be emptied.
-const MOST: u32 = 1_000_000;
-
-/// The folder with no finished instance, and then with no file: it is made where it isn't there.
+/// Makes the part anew, with no file. What stands in the folder stays as it is.
 ///
 /// # Errors
 ///
-/// `NotADirectory` where a link or a file stands in its place, which stays as it was. Else the
-/// system's.
-pub fn begin_folder<R: Files + AllocGlobal + Clone + Drop>(rt: &R, folder: &str) -> io::Result<()> {
-    match fs::symlink_metadata(rt, folder) {
-        Err(error) if error.kind() == ErrorKind::NotFound => fs::create_dir(rt, folder),
-        Err(error) => Err(error),
-        Ok(found) if !found.is_dir() => Err(io::Error::from(ErrorKind::NotADirectory)),
-        Ok(_) => {
-            remove_manifest(rt, folder)?;
-            empty_folder(rt, folder)
-        }
+/// `NotADirectory` where a link or a file stands in the place of the folder or of the part, which
+/// stays as it was. Else the system's.
+pub fn begin_part<R: Files + AllocGlobal + Clone + Drop>(rt: &R, folder: &str) -> io::Result<()> {
+    put_back(rt, folder)?;
+    let _stands = stands(rt, folder)?;
+    let part = part_path(rt, folder)?;
+    if stands(rt, part.as_str())? {
+        empty_part(rt, folder)?;
+    } else {
+        fs::create_dir(rt, part.as_str())?;
     }
+    let new = new_path(rt, folder)?;
+    fs::create_dir(rt, new.as_str())
 }
 
-/// Writes a new file, or leaves none.
+/// Writes a new file of the part, and waits until the device has it. A write that fails leaves no
+/// file.
 pub fn put_file<R: Files>(rt: &R, path: &str, body: &[u8]) -> io::Result<()> {
-    let file = File::create_new(rt, path)?;
-    fill_file(rt, path, file, body)
+    let mut file = Tried::new(File::create_new(rt, path)?);
+    fill_file(rt, path, &mut file, body)?;
+    file.device.sync_all()
 }
 
 /// Writes the bytes to the new file at this path, and removes it where that fails.
-pub fn fill_file<R: Files, W: Write + Drop>(
+pub fn fill_file<R: Files, W: Write>(
     rt: &R,
     path: &str,
-    mut file: W,
+    file: &mut W,
     body: &[u8],
 ) -> io::Result<()> {
     match file.write_all(body) {
@@ -53,143 +60,122 @@ pub fn fill_file<R: Files, W: Write + Drop>(
     }
 }
 
-/// Writes the manifest beside its place and then moves it there, so that it is there whole or
-/// not at all. Where that fails neither is left.
-pub fn seal_folder<R: Files + AllocGlobal>(
-    rt: &R,
-    folder: &str,
-    manifest: &[u8],
-) -> io::Result<()> {
+/// Writes the manifest, so that the part is whole, and waits until the device has it.
+pub fn seal_part<R: Files + AllocGlobal>(rt: &R, folder: &str, manifest: &[u8]) -> io::Result<()> {
+    let path = file_path(rt, folder, "manifest")?;
+    put_file(rt, path.as_str(), manifest)?;
+    let new = new_path(rt, folder)?;
+    File::open(rt, new.as_str())?.sync_all()?;
     let part = part_path(rt, folder)?;
-    let path = manifest_path(rt, folder)?;
-    put_file(rt, part.as_str(), manifest)?;
-    match move_in(rt, folder, part.as_str(), path.as_str()) {
-        Ok(()) => Ok(()),
+    File::open(rt, part.as_str())?.sync_all()
+}
+
+/// Sets aside what stands in the folder, where that is there.
+pub fn set_aside<R: Files + AllocGlobal>(rt: &R, folder: &str) -> io::Result<()> {
+    let old = old_path(rt, folder)?;
+    if stands(rt, folder)? {
+        fs::rename(rt, folder, old.as_str())?;
+    }
+    Ok(())
+}
+
+/// Moves what was written to the folder's place, and waits until the device has it there. Where it
+/// can't be moved, what was set aside comes back.
+pub fn move_in<R: Files + AllocGlobal>(rt: &R, folder: &str) -> io::Result<()> {
+    let new = new_path(rt, folder)?;
+    let beside = beside_path(rt, folder)?;
+    match fs::rename(rt, new.as_str(), folder) {
+        Ok(()) => File::open(rt, beside.as_str())?.sync_all(),
         Err(error) => {
-            let _removed = fs::remove_file(rt, part.as_str());
-            let _removed_too = fs::remove_file(rt, path.as_str());
+            let _back = put_back(rt, folder);
             Err(error)
         }
     }
 }
 
-/// The file whose presence says that the folder holds a finished instance.
-fn manifest_path<R: AllocGlobal>(rt: &R, folder: &str) -> Result<String, AllocError> {
-    let alloc = rt.alloc();
-    format!(in alloc; "{folder}/manifest")
+/// Puts back what was set aside, where a run was stopped between the two renames, and removes the
+/// part, where there is one. A link or a file in its place is none.
+pub fn remove_part<R: Files + AllocGlobal + Clone + Drop>(rt: &R, folder: &str) -> io::Result<()> {
+    put_back(rt, folder)?;
+    let part = part_path(rt, folder)?;
+    if is_folder(rt, part.as_str()) {
+        empty_part(rt, folder)?;
+        fs::remove_dir(rt, part.as_str())?;
+    }
+    Ok(())
 }
 
-/// The manifest while it is being written.
+/// Puts back what was set aside, where nothing stands in the folder's place.
+fn put_back<R: Files + AllocGlobal>(rt: &R, folder: &str) -> io::Result<()> {
+    let part = part_path(rt, folder)?;
+    let old = old_path(rt, folder)?;
+    match fs::symlink_metadata(rt, folder) {
+        Err(error) if error.kind() == ErrorKind::NotFound => {
+            if is_folder(rt, part.as_str()) && is_folder(rt, old.as_str()) {
+                fs::rename(rt, old.as_str(), folder)?;
+            }
+            Ok(())
+        }
+        Err(error) => Err(error),
+        Ok(_) => Ok(()),
+    }
+}
+
+/// Removes what the part holds. What was set aside gets another name first, so that no run puts it
+/// back when it isn't whole any more.
+fn empty_part<R: Files + AllocGlobal + Clone + Drop>(rt: &R, folder: &str) -> io::Result<()> {
+    let part = part_path(rt, folder)?;
+    let old = old_path(rt, folder)?;
+    if is_folder(rt, old.as_str()) {
+        move_up(rt, part.as_str(), old.as_str(), &mut 0)?;
+    }
+    empty_folder(rt, part.as_str())
+}
+
+/// Whether a folder stands under the name, and no link to one.
+fn is_folder<R: Files>(rt: &R, path: &str) -> bool {
+    match fs::symlink_metadata(rt, path) {
+        Ok(found) => found.is_dir(),
+        Err(_) => false,
+    }
+}
+
+/// Whether a folder stands under the name. Anything else that does, also a link, is a failure.
+fn stands<R: Files>(rt: &R, path: &str) -> io::Result<bool> {
+    match fs::symlink_metadata(rt, path) {
+        Err(error) if error.kind() == ErrorKind::NotFound => Ok(false),
+        Err(error) => Err(error),
+        Ok(found) if !found.is_dir() => Err(io::Error::from(ErrorKind::NotADirectory)),
+        Ok(_) => Ok(true),
+    }
+}
+
+/// The folder beside, in which a run puts an instance together.
 fn part_path<R: AllocGlobal>(rt: &R, folder: &str) -> Result<String, AllocError> {
     let alloc = rt.alloc();
-    format!(in alloc; "{folder}/manifest.part")
+    format!(in alloc; "{folder}.part")
 }
 
-/// Moves the written manifest to its place, and waits until the device has both.
-fn move_in<R: Files>(rt: &R, folder: &str, part: &str, path: &str) -> io::Result<()> {
-    File::open(rt, part)?.sync_all()?;
-    fs::rename(rt, part, path)?;
-    File::open(rt, folder)?.sync_all()
-}
-
-/// From here on the folder holds no finished instance. A folder of the manifest's name is none.
-fn remove_manifest<R: Files + AllocGlobal>(rt: &R, folder: &str) -> io::Result<()> {
-    let path = manifest_path(rt, folder)?;
-    match fs::remove_file(rt, path.as_str()) {
-        Err(error) if !is_no_manifest(error.kind()) => Err(error),
-        _ => Ok(()),
-    }
-}
-
-/// No file stands under the manifest's name.
-fn is_no_manifest(kind: ErrorKind) -> bool {
-    kind == ErrorKind::NotFound || kind == ErrorKind::IsADirectory
-}
-
-/// Removes what the folder holds, pass by pass, until a pass meets nothing.
-fn empty_folder<R: Files + AllocGlobal + Clone + Drop>(rt: &R, folder: &str) -> io::Result<()> {
-    let mut seen: u32 = 0;
-    for _ in 0..MOST {
-        let before = seen;
-        remove_entries(rt, folder, &mut seen)?;
-        if seen == before {
-            return Ok(());
-        }
-    }
-    Err(io::Error::from(ErrorKind::DirectoryNotEmpty))
-}
-
-/// Removes each entry of the folder. What its folders hold isn't removed at once: their folders
-/// move up into this one, so that no path gets long, and wait for the next pass.
-fn remove_entries<R: Files + AllocGlobal + Clone + Drop>(
-    rt: &R,
-    folder: &str,
-    seen: &mut u32,
-) -> io::Result<()> {
-    for entry in fs::read_dir(rt, folder)? {
-        let entry = entry?;
-        count_entry(seen)?;
-        if entry.file_type()?.is_dir() {
-            clear_subfolder(rt, folder, entry.path().as_str(), seen)?;
-            fs::remove_dir(rt, entry.path())?;
-        } else {
-            fs::remove_file(rt, entry.path())?;
-        }
-    }
-    Ok(())
-}
-
-/// Removes the files of a folder in the folder, and moves its folders up.
-fn clear_subfolder<R: Files + AllocGlobal + Clone + Drop>(
-    rt: &R,
-    folder: &str,
-    from: &str,
-    seen: &mut u32,
-) -> io::Result<()> {
-    for entry in fs::read_dir(rt, from)? {
-        let entry = entry?;
-        count_entry(seen)?;
-        if entry.file_type()?.is_dir() {
-            move_up(rt, folder, entry.path().as_str(), seen)?;
-        } else {
-            fs::remove_file(rt, entry.path())?;
-        }
-    }
-    Ok(())
-}
-
-/// Moves a folder up into the folder, under a name that isn't taken.
-fn move_up<R: Files + AllocGlobal>(
-    rt: &R,
-    folder: &str,
-    from: &str,
-    seen: &mut u32,
-) -> io::Result<()> {
+/// The new instance, while it is being written.
+fn new_path<R: AllocGlobal>(rt: &R, folder: &str) -> Result<String, AllocError> {
     let alloc = rt.alloc();
-    for _ in 0..MOST {
-        let to = format!(in alloc; "{folder}/{seen}.gone")?;
-        match fs::rename(rt, from, to.as_str()) {
-            Ok(()) => return Ok(()),
-            Err(error) if is_taken(error.kind()) => count_entry(seen)?,
-            Err(error) => return Err(error),
-        }
-    }
-    Err(io::Error::from(ErrorKind::DirectoryNotEmpty))
+    format!(in alloc; "{folder}.part/new")
 }
 
-/// Something that a folder can't replace stands under the name.
-fn is_taken(kind: ErrorKind) -> bool {
-    matches!(
-        kind,
-        ErrorKind::AlreadyExists | ErrorKind::DirectoryNotEmpty | ErrorKind::NotADirectory
-    )
+/// A file of the new instance, while it is being written.
+pub fn file_path<R: AllocGlobal>(rt: &R, folder: &str, name: &str) -> Result<String, AllocError> {
+    let alloc = rt.alloc();
+    format!(in alloc; "{folder}.part/new/{name}")
 }
 
-/// Counts an entry, and fails where there were too many.
-fn count_entry(seen: &mut u32) -> io::Result<()> {
-    if *seen >= MOST {
-        return Err(io::Error::from(ErrorKind::DirectoryNotEmpty));
-    }
-    *seen += 1;
-    Ok(())
+/// What stood in the folder, once it is set aside.
+fn old_path<R: AllocGlobal>(rt: &R, folder: &str) -> Result<String, AllocError> {
+    let alloc = rt.alloc();
+    format!(in alloc; "{folder}.part/old")
+}
+
+/// The folder in which the folder stands.
+fn beside_path<R: AllocGlobal>(rt: &R, folder: &str) -> Result<String, AllocError> {
+    let alloc = rt.alloc();
+    format!(in alloc; "{folder}/..")
 }

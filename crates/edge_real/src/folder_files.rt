@@ -4,7 +4,7 @@ ghost use Rattle.std.specs.Prelude.{◌≡◌, ◌≢◌, ◌≤◌, None, IfOk,
 ghost use Rattle.edge_io.specs.Faults.{Rose, one_more};
 ghost use Rattle.edge_io.specs.declared.file_fault.FileFault.{FileFault};
 
-use crate::Failures;
+use crate::{Failures, Tried};
 use edge_io::{FileFault, Files};
 use std::fs::File;
 use std::io;
@@ -24,6 +24,8 @@ pub struct FolderFiles<R: std::rt::Files + AllocGlobal + Drop> {
     pub rt: R,
     /// The reads that failed.
     pub failures: Failures,
+    /// The name of the file whose read failed last, where there was memory to keep it.
+    pub failed: Option<String>,
     /// How many reads found no file, or one that was too big, up to `u64::MAX`.
     pub misses: u64,
 }
@@ -33,17 +35,19 @@ impl<R: std::rt::Files + AllocGlobal + Drop> FolderFiles<R> {
     pub fn new(rt: R) -> FolderFiles<R>
         ensures rt { result.rt ≡ rt }
         ensures failures { result.failures.count ≡ 0 }
+        ensures failed { result.failed ≡ None }
         ensures misses { result.misses ≡ 0 }
     {
         FolderFiles {
             rt,
             failures: Failures::none(),
+            failed: None,
             misses: 0,
         }
     }
 
-    /// Counts what kept a file from being read, and says why it wasn't.
-    fn judge(&mut self, error: io::Error) -> FileFault
+    /// Counts what kept the file with this name from being read, and says why it wasn't.
+    fn judge(&mut self, name: &str, error: io::Error) -> FileFault
         ensures small { result ≢ FileFault.TooBig }
         ensures fault { result ≡ FileFault.Failed → self.new.failures.count ≡ one_more self.old.failures.count }
         ensures quiet { result ≢ FileFault.Failed → self.new.failures.count ≡ self.old.failures.count }
@@ -57,6 +61,7 @@ impl<R: std::rt::Files + AllocGlobal + Drop> FolderFiles<R> {
             ErrorKind::NotFound | ErrorKind::NotADirectory => self.miss(FileFault::Absent),
             _ => {
                 self.failures.add(error);
+                self.failed = String::from_str(self.rt.alloc(), name).ok();
                 FileFault::Failed
             }
         }
@@ -100,7 +105,7 @@ impl<R: std::rt::Files + AllocGlobal + Drop> Files for FolderFiles<R> {
         match read_front(&self.rt, name) {
             Ok(bytes) if bytes.len() > MOST => Err(self.miss(FileFault::TooBig)),
             Ok(bytes) => Ok(bytes),
-            Err(error) => Err(self.judge(error)),
+            Err(error) => Err(self.judge(name, error)),
         }
     }
 }
@@ -108,7 +113,7 @@ impl<R: std::rt::Files + AllocGlobal + Drop> Files for FolderFiles<R> {
 /// The bytes of the file with this name, up to one more than a file may have.
 fn read_front<R: std::rt::Files + AllocGlobal>(rt: &R, name: &str) -> io::Result<Vec<u8>> {
     let mut bytes = Vec::new(rt.alloc());
-    let mut front = File::open(rt, name)?.take(MOST as u64 + 1);
+    let mut front = Tried::new(File::open(rt, name)?).take(MOST as u64 + 1);
     front.read_to_end(&mut bytes)?;
     Ok(bytes)
 }

@@ -5,13 +5,18 @@ ghost use Rattle.edge_io.specs.Faults.{Rose, one_more};
 ghost use Rattle.edge_io.specs.Shelved.{part_of};
 
 use crate::Failures;
-use crate::folder::{begin_folder, put_file, seal_folder};
+use crate::folder::{begin_part, file_path, move_in, put_file, remove_part, seal_part, set_aside};
 use edge_io::{Shelf, Trouble};
 use std::alloc::Global;
+use std::io;
 use std::rt::Files;
 
 /// The folder `installed` in the current folder. Each file stands there under its identifier in
-/// decimal, and the manifest, which is written last, as `manifest`. Nothing is told of it.
+/// decimal, and the manifest as `manifest`. Nothing is told of it.
+///
+/// A part is put together in the folder `installed.part` beside, and `finish` exchanges the two: so
+/// `installed` holds the old instance or the whole new one. `finish` leaves no part, so a file can
+/// be put only after another `begin`. `clear` is for the start and the end of a run.
 #[derive(Drop)]
 pub struct FolderShelf<R: Files + AllocGlobal + Clone + Drop> {
     /// The runtime, which has the files.
@@ -34,6 +39,30 @@ impl<R: Files + AllocGlobal + Clone + Drop> FolderShelf<R> {
             failures: Failures::none(),
         }
     }
+
+    /// Removes what a run that was stopped left beside the folder, or a part that isn't finished.
+    /// Where the stop came between the two renames, the old instance is put back. Else nothing
+    /// changes.
+    ///
+    /// # Errors
+    ///
+    /// `Failed` where the device failed, and `Memory`.
+    pub fn clear(&mut self) -> Result<(), Trouble>
+        ensures fault { IsErrOf result Trouble.Failed → self.new.failures.count ≡ one_more self.old.failures.count }
+        ensures quiet { OnOk result (self.new.failures.count ≡ self.old.failures.count) }
+        ensures wants { IsErrOf result Trouble.Memory → self.new.failures.count ≡ self.old.failures.count }
+    {
+        let done = remove_part(&self.rt, self.folder);
+        self.failures.judge(done)
+    }
+
+    /// Makes the part whole, exchanges it with what stands in the folder, and removes that.
+    fn exchange(&self, manifest: &[u8]) -> io::Result<()> {
+        seal_part(&self.rt, self.folder, manifest)?;
+        set_aside(&self.rt, self.folder)?;
+        move_in(&self.rt, self.folder)?;
+        remove_part(&self.rt, self.folder)
+    }
 }
 
 impl<R: Files + AllocGlobal + Clone + Drop> Shelf for FolderShelf<R> {
@@ -43,9 +72,9 @@ impl<R: Files + AllocGlobal + Clone + Drop> Shelf for FolderShelf<R> {
 
     ghost faults = { λ s. s.failures.count };
 
-    /// Removes the manifest first, and then all that the folder holds, without following a link.
-    /// Fails with everything as it was where a link or a file stands in the folder's place, and
-    /// where the folder holds more than a million entries.
+    /// Makes the part anew, without following a link. What is installed stays. Fails with everything
+    /// as it was where a link or a file stands in the place of the folder or of the part, and where
+    /// what a stopped run left has more than a million entries.
     fn begin(&mut self, _number: u32) -> Result<(), Trouble>
         ensures fault { IsErrOf result Trouble.Failed → self.new.failures.count ≡ one_more self.old.failures.count }
         ensures quiet { OnOk result (self.new.failures.count ≡ self.old.failures.count) }
@@ -53,7 +82,7 @@ impl<R: Files + AllocGlobal + Clone + Drop> Shelf for FolderShelf<R> {
         ensures rose { IsErrOf result Trouble.Failed → Rose self.old.failures.count self.new.failures.count }
         ensures grows { self.old.failures.count ≤ self.new.failures.count }
     {
-        let done = begin_folder(&self.rt, self.folder);
+        let done = begin_part(&self.rt, self.folder);
         self.failures.judge(done)
     }
 
@@ -66,13 +95,14 @@ impl<R: Files + AllocGlobal + Clone + Drop> Shelf for FolderShelf<R> {
         ensures grows { self.old.failures.count ≤ self.new.failures.count }
     {
         let alloc = self.rt.alloc();
-        let folder = self.folder;
-        let path = format!(in alloc; "{folder}/{toi}")?;
+        let name = format!(in alloc; "{toi}")?;
+        let path = file_path(&self.rt, self.folder, name.as_str())?;
         let done = put_file(&self.rt, path.as_str(), body);
         self.failures.judge(done)
     }
 
-    /// Leaves no manifest where it fails.
+    /// Where it fails what is installed is the old instance, or the whole new one where only the old
+    /// one couldn't be removed.
     fn finish(&mut self, manifest: &[u8]) -> Result<(), Trouble>
         ensures fault { IsErrOf result Trouble.Failed → self.new.failures.count ≡ one_more self.old.failures.count }
         ensures quiet { OnOk result (self.new.failures.count ≡ self.old.failures.count) }
@@ -80,7 +110,7 @@ impl<R: Files + AllocGlobal + Clone + Drop> Shelf for FolderShelf<R> {
         ensures rose { IsErrOf result Trouble.Failed → Rose self.old.failures.count self.new.failures.count }
         ensures grows { self.old.failures.count ≤ self.new.failures.count }
     {
-        let done = seal_folder(&self.rt, self.folder, manifest);
+        let done = self.exchange(manifest);
         self.failures.judge(done)
     }
 }

@@ -1,8 +1,8 @@
 //! Datagrams to a packet log or to a UDP address.
 
-ghost use Rattle.std.specs.Prelude.{◌≡◌, ◌≤◌, [], Option, Some, None, length, OnOk, OnErr, IsErrOf};
+ghost use Rattle.std.specs.Prelude.{◌≡◌, ◌≤◌, [], ◌∷◌, ◌++◌, Option, Some, None, All, length, OnOk, OnErr, IsErrOf};
 ghost use Rattle.edge_io.specs.Faults.{Rose, one_more};
-ghost use Rattle.edge_real.specs.Placing.{IsUdp};
+ghost use Rattle.edge_real.specs.Placing.{IsUdp, IsOnLog};
 
 use crate::UdpEmit;
 use edge_io::{Emit, LogWriter, Place, Text, Trouble};
@@ -11,7 +11,8 @@ use std::net::Net;
 use std::time::Clock;
 
 /// A sink of datagrams that sends them to the place that was connected: to a packet log, written to
-/// a text, or to a UDP address, at a rate. Nothing is told of it.
+/// a text, or to a UDP address, at a rate. Without a network it tells what its log tells; with one
+/// nothing is told, since a socket tells nothing.
 ///
 /// Until a `connect` answered `Ok` it writes the log. A `connect` at the log closes the socket; one
 /// at an address leaves the text alone, so that nothing of a log is written where none is asked for.
@@ -30,8 +31,12 @@ pub struct PlacedEmit<T: Text, N: Net + Clock + Drop> {
 
 impl<T: Text, N: Net + Clock + Drop> PlacedEmit<T, N> {
     /// A log of which nothing is written, or a socket of this network that keeps to so many bytes a
-    /// second, with no limit at 0. Takes no memory.
-    pub fn new(alloc: Global, sink: T, net: N, rate: u64) -> PlacedEmit<T, N>
+    /// second, with no limit at 0. Without a network a `connect` at an address fails. Takes no
+    /// memory.
+    pub fn new(alloc: Global, sink: T, net: Option<N>, rate: u64) -> PlacedEmit<T, N>
+        ensures told { T.told sink → T.written sink ≡ [] → net ≡ None → ⟦<PlacedEmit<T, N> as Emit>⟧.told result }
+        ensures sent { ⟦<PlacedEmit<T, N> as Emit>⟧.sent result ≡ [] }
+        ensures net { result.udp.net ≡ net }
         ensures sink { result.log.sink ≡ sink }
         ensures rate { result.udp.rate ≡ rate }
         ensures connected { result.connected ≡ None }
@@ -47,6 +52,10 @@ impl<T: Text, N: Net + Clock + Drop> PlacedEmit<T, N> {
 
     /// Connects at the place. The count stays.
     fn connect_at(&mut self, place: &Place) -> Result<(), Trouble>
+        ensures told { ⟦<LogWriter<T> as Emit>⟧.told self.old.log → ⟦<LogWriter<T> as Emit>⟧.told self.new.log }
+        ensures sent { ⟦<LogWriter<T> as Emit>⟧.told self.old.log → ⟦<LogWriter<T> as Emit>⟧.sent self.new.log ≡ ⟦<LogWriter<T> as Emit>⟧.sent self.old.log }
+        ensures net { self.new.udp.net ≡ self.old.udp.net }
+        ensures unreached { OnOk result (self.old.udp.net ≡ None → IsUdp self.new.connected → ⊥) }
         ensures rate { self.new.udp.rate ≡ self.old.udp.rate }
         ensures ok { OnOk result (self.new.connected ≡ Some place.now) }
         ensures err { OnErr result (self.new.connected ≡ self.old.connected) }
@@ -67,6 +76,12 @@ impl<T: Text, N: Net + Clock + Drop> PlacedEmit<T, N> {
     /// Sends the datagram to the place. The count stays.
     fn send_there(&mut self, datagram: &[u8]) -> Result<(), Trouble>
         requires { length datagram.now ≤ 65535 }
+        ensures told { ⟦<LogWriter<T> as Emit>⟧.told self.old.log → ⟦<LogWriter<T> as Emit>⟧.told self.new.log }
+        ensures sent_ok { OnOk result (⟦<LogWriter<T> as Emit>⟧.told self.old.log → (IsUdp self.old.connected → ⊥)
+            → ⟦<LogWriter<T> as Emit>⟧.sent self.new.log ≡ ⟦<LogWriter<T> as Emit>⟧.sent self.old.log ++ datagram.now ∷ []) }
+        ensures sent_err { OnErr result (⟦<LogWriter<T> as Emit>⟧.told self.old.log → ⟦<LogWriter<T> as Emit>⟧.sent self.new.log ≡ ⟦<LogWriter<T> as Emit>⟧.sent self.old.log) }
+        ensures short { (IsUdp self.old.connected → ⊥) → ⟦<LogWriter<T> as Emit>⟧.told self.old.log → All (λ d. length d ≤ 65535) (⟦<LogWriter<T> as Emit>⟧.sent self.old.log) }
+        ensures net { self.new.udp.net ≡ self.old.udp.net }
         ensures rate { self.new.udp.rate ≡ self.old.udp.rate }
         ensures place { self.new.connected ≡ self.old.connected }
         ensures unwritten { IsUdp self.old.connected → self.new.log ≡ self.old.log }
@@ -81,15 +96,21 @@ impl<T: Text, N: Net + Clock + Drop> PlacedEmit<T, N> {
 }
 
 impl<T: Text, N: Net + Clock + Drop> Emit for PlacedEmit<T, N> {
-    ghost told = { λ _. ⊥ };
+    ghost use Rattle.edge_real.specs.Placing.{IsOnLog};
 
-    ghost sent = { λ _. [] };
+    ghost told = { λ s. IsOnLog (⟦<LogWriter<T> as Emit>⟧.told s.log) s.udp.net s.connected };
+
+    ghost sent = { λ s. ⟦<LogWriter<T> as Emit>⟧.sent s.log };
 
     ghost connected = { λ s. s.connected };
 
     ghost faults = { λ s. s.failures };
 
     fn connect(&mut self, place: &Place) -> Result<(), Trouble>
+        ensures told { IsOnLog (⟦<LogWriter<T> as Emit>⟧.told self.old.log) self.old.udp.net self.old.connected
+            → IsOnLog (⟦<LogWriter<T> as Emit>⟧.told self.new.log) self.new.udp.net self.new.connected }
+        ensures sent { ⟦<LogWriter<T> as Emit>⟧.told self.old.log → ⟦<LogWriter<T> as Emit>⟧.sent self.new.log ≡ ⟦<LogWriter<T> as Emit>⟧.sent self.old.log }
+        ensures net { self.new.udp.net ≡ self.old.udp.net }
         ensures rate { self.new.udp.rate ≡ self.old.udp.rate }
         ensures ok { OnOk result (self.new.connected ≡ Some place.now) }
         ensures err { OnErr result (self.new.connected ≡ self.old.connected) }
@@ -109,6 +130,14 @@ impl<T: Text, N: Net + Clock + Drop> Emit for PlacedEmit<T, N> {
 
     fn send(&mut self, datagram: &[u8]) -> Result<(), Trouble>
         requires { length datagram.now ≤ 65535 }
+        ensures told { IsOnLog (⟦<LogWriter<T> as Emit>⟧.told self.old.log) self.old.udp.net self.old.connected
+            → IsOnLog (⟦<LogWriter<T> as Emit>⟧.told self.new.log) self.new.udp.net self.new.connected }
+        ensures ok { OnOk result (IsOnLog (⟦<LogWriter<T> as Emit>⟧.told self.old.log) self.old.udp.net self.old.connected
+            → ⟦<LogWriter<T> as Emit>⟧.sent self.new.log ≡ ⟦<LogWriter<T> as Emit>⟧.sent self.old.log ++ datagram.now ∷ []) }
+        ensures err { OnErr result (⟦<LogWriter<T> as Emit>⟧.told self.old.log → ⟦<LogWriter<T> as Emit>⟧.sent self.new.log ≡ ⟦<LogWriter<T> as Emit>⟧.sent self.old.log) }
+        ensures short { IsOnLog (⟦<LogWriter<T> as Emit>⟧.told self.old.log) self.old.udp.net self.old.connected
+            → All (λ d. length d ≤ 65535) (⟦<LogWriter<T> as Emit>⟧.sent self.old.log) }
+        ensures net { self.new.udp.net ≡ self.old.udp.net }
         ensures rate { self.new.udp.rate ≡ self.old.udp.rate }
         ensures place { self.new.connected ≡ self.old.connected }
         ensures unwritten { IsUdp self.old.connected → self.new.log ≡ self.old.log }

@@ -4,14 +4,13 @@ ghost use Rattle.std.specs.Prelude.{◌≡◌, ◌≤◌, [], length, IfOk, OnOk
 ghost use Rattle.edge_io.specs.Faults.{Rose, one_more};
 
 use crate::Failures;
-use crate::tries::TRIES;
 use edge_io::{Bytes, Failed};
-use std::io;
-use std::io::{ErrorKind, Read};
+use std::io::Read;
 
 /// The bytes of a real reader, as standard input. Nothing is told of them.
 ///
-/// It reads as the reader does: over a `BufReader` it asks the system for large pieces.
+/// It reads as the reader does: over a `BufReader` it asks the system for large pieces. A read that
+/// a signal interrupts is a failure, unless a `Tried` stands below.
 #[derive(Drop)]
 pub struct ReaderBytes<R: Read + Drop> {
     /// The reader.
@@ -40,7 +39,6 @@ impl<R: Read + Drop> Bytes for ReaderBytes<R> {
 
     ghost faults = { λ s. s.failures.count };
 
-    /// A read that a signal interrupts is tried again, up to 1,000 times.
     fn read(&mut self, out: &mut [u8]) -> Result<usize, Failed>
         ensures within { IfOk result (λ n. n ≤ length out.new) }
         ensures fault { IsErr result → self.new.failures.count ≡ one_more self.old.failures.count }
@@ -48,7 +46,7 @@ impl<R: Read + Drop> Bytes for ReaderBytes<R> {
         ensures rose { IsErr result → Rose self.old.failures.count self.new.failures.count }
         ensures grows { self.old.failures.count ≤ self.new.failures.count }
     {
-        match read_once(&mut self.reader, out) {
+        match self.reader.read(out) {
             Ok(count) => Ok(count),
             Err(error) => {
                 self.failures.add(error);
@@ -56,17 +54,4 @@ impl<R: Read + Drop> Bytes for ReaderBytes<R> {
             }
         }
     }
-}
-
-/// One read that no signal interrupted.
-fn read_once<R: Read>(reader: &mut R, out: &mut [u8]) -> io::Result<usize>
-    ensures within { IfOk result (λ n. n ≤ length out.new) }
-{
-    for _ in 0..TRIES {
-        match reader.read(out) {
-            Err(error) if error.kind() == ErrorKind::Interrupted => {}
-            done => return done,
-        }
-    }
-    Err(io::Error::from(ErrorKind::Interrupted))
 }

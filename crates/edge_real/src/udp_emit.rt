@@ -1,11 +1,11 @@
 //! Datagrams sent by a UDP socket, at a rate.
 
-ghost use Rattle.std.specs.Prelude.{◌≡◌, ◌≤◌, [], Option, Some, None, length, OnOk, OnErr, IsErrOf};
+ghost use Rattle.std.specs.Prelude.{◌≡◌, ◌≤◌, [], Option, Some, None, length, OnOk, OnErr, IsErr, IsErrOf};
 ghost use Rattle.edge_io.specs.Faults.{Rose, one_more};
 
 use crate::Failures;
 use crate::pace::Pace;
-use crate::tries::TRIES;
+use crate::tries::{TRIES, interrupted_each_time};
 use edge_io::{Emit, Place, Trouble};
 use std::io::ErrorKind;
 use std::net::{Ipv4Addr, Net, UdpSocket};
@@ -19,13 +19,13 @@ pub const DEFAULT_RATE: u64 = 12_500_000;
 /// a sender at full speed overruns their buffers. Nothing is told of it.
 ///
 /// `connect` takes a socket, whose port the system chooses. A packet log is no address, so that it
-/// fails there. `send` sleeps where the sender is half a millisecond ahead of its rate, and then
+/// fails there, and so it does without a network. `send` sleeps where the sender is half a millisecond ahead of its rate, and then
 /// hands the datagram to the system; whether it arrives nobody knows. A datagram counts as 512
 /// bytes at least. After a pause or a late wake, up to 10 ms of the rate go out at once.
 #[derive(Drop)]
 pub struct UdpEmit<N: Net + Clock + Drop> {
-    /// What opens sockets and has the time.
-    rt: N,
+    /// What opens sockets and has the time, where anything does.
+    pub net: Option<N>,
     /// Bytes a second, or 0 for no limit.
     pub rate: u64,
     /// The way to the place.
@@ -48,13 +48,14 @@ struct Line {
 
 impl<N: Net + Clock + Drop> UdpEmit<N> {
     /// A sink that keeps to so many bytes a second, or has no limit at 0. No socket is open yet.
-    pub fn new(rt: N, rate: u64) -> UdpEmit<N>
+    pub fn new(net: Option<N>, rate: u64) -> UdpEmit<N>
+        ensures net { result.net ≡ net }
         ensures rate { result.rate ≡ rate }
         ensures connected { result.connected ≡ None }
         ensures failures { result.failures.count ≡ 0 }
     {
         UdpEmit {
-            rt,
+            net,
             rate,
             line: None,
             connected: None,
@@ -64,6 +65,7 @@ impl<N: Net + Clock + Drop> UdpEmit<N> {
 
     /// Closes the socket, where there is one.
     pub fn close(&mut self)
+        ensures net { self.new.net ≡ self.old.net }
         ensures rate { self.new.rate ≡ self.old.rate }
         ensures connected { self.new.connected ≡ None }
         ensures failures { self.new.failures ≡ self.old.failures }
@@ -85,6 +87,8 @@ impl<N: Net + Clock + Drop> Emit for UdpEmit<N> {
     /// The socket of an earlier `connect` is closed where this one answers `Ok`, and stays where it
     /// fails. Nothing is sent.
     fn connect(&mut self, place: &Place) -> Result<(), Trouble>
+        ensures net { self.new.net ≡ self.old.net }
+        ensures unreached { self.old.net ≡ None → IsErr result }
         ensures rate { self.new.rate ≡ self.old.rate }
         ensures ok { OnOk result (self.new.connected ≡ Some place.now) }
         ensures err { OnErr result (self.new.connected ≡ self.old.connected) }
@@ -94,7 +98,7 @@ impl<N: Net + Clock + Drop> Emit for UdpEmit<N> {
         ensures rose { IsErrOf result Trouble.Failed → Rose self.old.failures.count self.new.failures.count }
         ensures grows { self.old.failures.count ≤ self.new.failures.count }
     {
-        match open_line(&self.rt, self.rate, place) {
+        match open_line(&self.net, self.rate, place) {
             Ok(line) => {
                 self.line = Some(line);
                 self.connected = Some(*place);
@@ -108,6 +112,7 @@ impl<N: Net + Clock + Drop> Emit for UdpEmit<N> {
     /// bytes, which are no datagram over IPv4, fails, and so does one before a `connect`.
     fn send(&mut self, datagram: &[u8]) -> Result<(), Trouble>
         requires { length datagram.now ≤ 65535 }
+        ensures net { self.new.net ≡ self.old.net }
         ensures rate { self.new.rate ≡ self.old.rate }
         ensures place { self.new.connected ≡ self.old.connected }
         ensures fault { IsErrOf result Trouble.Failed → self.new.failures.count ≡ one_more self.old.failures.count }
@@ -116,35 +121,43 @@ impl<N: Net + Clock + Drop> Emit for UdpEmit<N> {
         ensures rose { IsErrOf result Trouble.Failed → Rose self.old.failures.count self.new.failures.count }
         ensures grows { self.old.failures.count ≤ self.new.failures.count }
     {
-        let done = send_on(&self.rt, &mut self.line, datagram);
+        let done = send_on(&self.net, &mut self.line, datagram);
         self.failures.judge(done)
     }
 }
 
 /// The way to the address, over a socket of its own.
-fn open_line<N: Net + Clock>(rt: &N, rate: u64, place: &Place) -> io::Result<Line> {
+fn open_line<N: Net + Clock>(net: &Option<N>, rate: u64, place: &Place) -> io::Result<Line>
+    ensures unreached { net.now ≡ None → IsErr result }
+{
     let Place::Udp { ip, port } = *place else {
         return Err(io::Error::from(ErrorKind::InvalidInput));
     };
+    let Some(net) = net else {
+        return Err(io::Error::from(ErrorKind::Unsupported));
+    };
     Ok(Line {
-        socket: UdpSocket::bind(rt, (Ipv4Addr::UNSPECIFIED, 0))?,
+        socket: UdpSocket::bind(net, (Ipv4Addr::UNSPECIFIED, 0))?,
         peer: (Ipv4Addr::from(ip), port),
-        start: Instant::now(rt)?,
+        start: Instant::now(net)?,
         pace: Pace::new(rate),
     })
 }
 
 /// Sends the datagram once its time has come.
-fn send_on<N: Clock>(rt: &N, line: &mut Option<Line>, datagram: &[u8]) -> io::Result<()>
+fn send_on<N: Clock>(net: &Option<N>, line: &mut Option<Line>, datagram: &[u8]) -> io::Result<()>
     requires { length datagram.now ≤ 65535 }
 {
     let Some(line) = line else {
         return Err(io::Error::from(ErrorKind::NotConnected));
     };
-    let now = u64::try_from(line.start.elapsed(rt)?.as_nanos()).unwrap_or(u64::MAX);
+    let Some(net) = net else {
+        return Err(io::Error::from(ErrorKind::Unsupported));
+    };
+    let now = u64::try_from(line.start.elapsed(net)?.as_nanos()).unwrap_or(u64::MAX);
     let wait = line.pace.wait(now, datagram.len() as u16);
     if wait > 0 {
-        thread::sleep(rt, Duration::from_nanos(wait));
+        thread::sleep(net, Duration::from_nanos(wait));
     }
     send_whole(&line.socket, line.peer, datagram)
 }
@@ -159,5 +172,5 @@ fn send_whole(socket: &UdpSocket, peer: (Ipv4Addr, u16), datagram: &[u8]) -> io:
             Err(error) => return Err(error),
         }
     }
-    Err(io::Error::from(ErrorKind::Interrupted))
+    Err(interrupted_each_time())
 }

@@ -4,16 +4,15 @@ ghost use Rattle.std.specs.Prelude.{◌≡◌, ◌≤◌, [], OnOk, IsErrOf};
 ghost use Rattle.edge_io.specs.Faults.{Rose, one_more};
 
 use crate::Failures;
-use crate::tries::TRIES;
 use edge_io::{Text, Trouble};
-use std::io;
-use std::io::{ErrorKind, Write};
+use std::io::Write;
 
 /// The text of a real writer, as standard output. Nothing is told of it.
 ///
 /// It writes as the writer does: over a `BufWriter` it gives the system large pieces. What the
 /// writer still holds goes out with `finish`, which must be called at the end: a writer that is
-/// only dropped loses the failure.
+/// only dropped loses the failure. A write that a signal interrupts is tried again without an end,
+/// unless a `Tried` stands right above the device.
 #[derive(Drop)]
 pub struct WriterText<W: Write + Drop> {
     /// The writer.
@@ -34,8 +33,7 @@ impl<W: Write + Drop> WriterText<W> {
         }
     }
 
-    /// Writes out what the writer still holds. A flush that a signal interrupts is tried again, up
-    /// to 1,000 times.
+    /// Writes out what the writer still holds.
     ///
     /// # Errors
     ///
@@ -47,7 +45,7 @@ impl<W: Write + Drop> WriterText<W> {
         ensures rose { IsErrOf result Trouble.Failed → Rose self.old.failures.count self.new.failures.count }
         ensures grows { self.old.failures.count ≤ self.new.failures.count }
     {
-        let done = flush_once(&mut self.writer);
+        let done = self.writer.flush();
         self.failures.judge(done)
     }
 }
@@ -69,15 +67,4 @@ impl<W: Write + Drop> Text for WriterText<W> {
         let done = self.writer.write_all(bytes);
         self.failures.judge(done)
     }
-}
-
-/// One flush that no signal interrupted.
-fn flush_once<W: Write>(writer: &mut W) -> io::Result<()> {
-    for _ in 0..TRIES {
-        match writer.flush() {
-            Err(error) if error.kind() == ErrorKind::Interrupted => {}
-            done => return done,
-        }
-    }
-    Err(io::Error::from(ErrorKind::Interrupted))
 }

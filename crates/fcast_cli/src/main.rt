@@ -2,16 +2,21 @@
 #![tactic(auto)]
 
 mod event_text;
-mod rate;
+mod settings;
+mod standard;
 mod tell;
 mod watchers;
 
 use crate::event_text::EventText;
-use crate::rate::{RateFault, asked_rate};
-use crate::tell::{tell, tell_first};
+use crate::settings::{SettingFault, Settings, asked_settings};
+use crate::standard::hold_standard;
+use crate::tell::{tell, tell_file, tell_first};
 use crate::watchers::{heard_by, tell_heard};
 use edge_io::{Text, Trouble};
-use edge_real::{FolderFiles, FolderShelf, PlacedDatagrams, PlacedEmit, ReaderBytes, WriterText};
+use edge_real::{
+    EchoedText, FolderFiles, FolderShelf, PlacedDatagrams, PlacedEmit, ReaderBytes, Tried,
+    WriterText,
+};
 use fcast_run::{Edge, Wide, run, run_listen};
 use meta_text::Label;
 use std::io::{BufReader, BufWriter, ErrorKind};
@@ -22,11 +27,14 @@ use std::thread::Threads;
 use std::{env, io};
 use watch_list::{Bell, Counter, Lines, Watch};
 
-/// The status for a `FCAST_RATE` that is no number, as for a faulty command.
+/// The status for an environment variable that is no number in its range, as for a faulty command.
 const NO_COMMAND: u8 = 1;
 
 /// The status for a standard output that fails.
 const TEXT_FAILED: u8 = 5;
+
+/// The status for a folder `installed` that fails.
+const SHELF_FAILED: u8 = 6;
 
 /// The status for want of memory.
 const NO_MEMORY: u8 = 9;
@@ -35,20 +43,12 @@ const NO_MEMORY: u8 = 9;
 const PIECE: usize = 65_536;
 
 fn main(rt: HostRuntime) -> ExitCode {
-    let words = match command_words(&rt) {
-        Ok(words) => words,
-        Err(error) if error.kind() == ErrorKind::OutOfMemory => return ExitCode::from(NO_MEMORY),
+    let _held = [hold_standard(&rt), hold_standard(&rt), hold_standard(&rt)];
+    let status = match command_words(&rt) {
+        Ok(words) => run_words(&rt, rt, words.as_slice()),
+        Err(error) if error.kind() == ErrorKind::OutOfMemory => NO_MEMORY,
         // Words that aren't text are no command, as no words are.
-        Err(_) => Vec::new(rt.alloc()),
-    };
-    let status = match asked_rate(&rt) {
-        // Only a buffer's memory is asked for.
-        Ok(rate) => run_outside(&rt, rt, rate, words.as_slice()).unwrap_or(NO_MEMORY),
-        Err(RateFault::NoNumber) => {
-            tell(&rt, "FCAST_RATE is no number of bytes a second", &None);
-            NO_COMMAND
-        }
-        Err(RateFault::Memory) => NO_MEMORY,
+        Err(_) => run_words(&rt, rt, &[]),
     };
     if status == NO_MEMORY {
         tell(&rt, "memory", &None);
@@ -56,32 +56,69 @@ fn main(rt: HostRuntime) -> ExitCode {
     ExitCode::from(status)
 }
 
+/// Runs the command as the environment variables ask for it.
+fn run_words<R: Threads + Wait + Copy + Send + 'static>(
+    threads: &R,
+    rt: HostRuntime,
+    words: &[Label],
+) -> u8 {
+    match asked_settings(&rt) {
+        // Only a buffer's memory is asked for.
+        Ok(settings) => run_outside(threads, rt, settings, words).unwrap_or(NO_MEMORY),
+        Err(SettingFault::Rate) => {
+            tell(&rt, "FCAST_RATE is no number of bytes a second", &None);
+            NO_COMMAND
+        }
+        Err(SettingFault::Idle) => {
+            tell(
+                &rt,
+                "FCAST_IDLE is no number of seconds from 1 to 86400",
+                &None,
+            );
+            NO_COMMAND
+        }
+        Err(SettingFault::Memory) => NO_MEMORY,
+    }
+}
+
 /// Runs the command over the real forms, and says what the watchers heard and which of the forms failed. The readers of
 /// a listening run on `threads`.
 fn run_outside<R: Threads + Wait + Copy + Send + 'static>(
     threads: &R,
     rt: HostRuntime,
-    rate: u64,
+    settings: Settings,
     words: &[Label],
 ) -> io::Result<u8> {
     let alloc = rt.alloc();
-    let input = BufReader::with_capacity(alloc, PIECE, rt.stdin())?;
-    let log = BufWriter::with_capacity(alloc, PIECE, rt.stdout())?;
-    let output = BufWriter::with_capacity(alloc, PIECE, rt.stdout())?;
+    let listens = is_command(words, "listen");
+    let waits = listens || is_command(words, "recv");
+    let receives = waits || is_command(words, "replay");
+    let mut shelf = FolderShelf::new(rt);
+    if receives && let Err(trouble) = shelf.clear() {
+        return Ok(tell_unclear(rt, &shelf, trouble));
+    }
+    let input = BufReader::with_capacity(alloc, PIECE, Tried::new(rt.stdin()))?;
+    let log = BufWriter::with_capacity(alloc, PIECE, Tried::new(rt.stdout()))?;
+    let output = BufWriter::with_capacity(alloc, PIECE, Tried::new(rt.stdout()))?;
+    // What a send writes to the text would be lost in the log, or not be missed where that goes into a file.
+    let echo = is_command(words, "send").then_some(Tried::new(rt.stderr()));
+    // Words without an address get no network.
+    let net = has_address(words).then_some(rt);
     let mut edge = Edge {
-        datagrams: PlacedDatagrams::new(ReaderBytes::new(input), rt),
-        emit: PlacedEmit::new(alloc, WriterText::new(log), rt, rate),
+        datagrams: PlacedDatagrams::new(ReaderBytes::new(input), net, settings.idle),
+        emit: PlacedEmit::new(alloc, WriterText::new(log), net, settings.rate),
         files: FolderFiles::new(rt),
-        shelf: FolderShelf::new(rt),
-        text: WriterText::new(output),
+        shelf,
+        text: EchoedText::new(WriterText::new(output), echo),
     };
+    // What waits for datagrams tells each event at once, since the next may not come.
+    let events = EventText::new(rt, alloc, if waits { 0 } else { PIECE })?;
     // They are boxed here, since what boxes hide would be hidden in a function that gives them to its caller.
     let mut watchers: Vec<Box<dyn Watch>> = Vec::new(alloc);
-    let listens = is_listen(words);
     if listens {
-        watchers.push(Box::new(alloc, Bell::new(EventText::new(rt, alloc)?))?)?;
+        watchers.push(Box::new(alloc, Bell::new(events))?)?;
     } else {
-        watchers.push(Box::new(alloc, Lines::new(EventText::new(rt, alloc)?))?)?;
+        watchers.push(Box::new(alloc, Lines::new(events))?)?;
     }
     watchers.push(Box::new(alloc, Counter::new())?)?;
     let mut heard = Vec::with_capacity(alloc, watchers.len())?;
@@ -92,7 +129,7 @@ fn run_outside<R: Threads + Wait + Copy + Send + 'static>(
         run(alloc, words, &mut edge, &mut watchers)
     };
     let status = ended(status, edge.emit.log.sink.finish());
-    let status = ended(status, edge.text.finish());
+    let status = ended(status, edge.text.text.finish());
     heard_by(&watchers, &mut heard)?;
     // The lines of events that are still in the buffer go out with the one who wrote them.
     drop(watchers);
@@ -110,19 +147,39 @@ fn run_outside<R: Threads + Wait + Copy + Send + 'static>(
             &[
                 ("UDP", &edge.emit.udp.failures.last),
                 ("standard output", &edge.emit.log.sink.failures.last),
-                ("standard output", &edge.text.failures.last),
+                ("standard output", &edge.text.text.failures.last),
             ],
         ),
-        6 => tell(&rt, "installed", &edge.shelf.failures.last),
-        12 => tell(&rt, "files", &edge.files.failures.last),
+        SHELF_FAILED => tell(&rt, "installed", &edge.shelf.failures.last),
+        12 => tell_file(&rt, &edge.files),
         _ => {}
+    }
+    if receives {
+        // What can't be removed now is removed by the next run.
+        let _cleared = edge.shelf.clear();
     }
     Ok(status)
 }
 
-/// Says whether the words are a `listen`, as far as the first of them goes.
-fn is_listen(words: &[Label]) -> bool {
-    words.first().is_some_and(|word| word.as_str() == "listen")
+/// The status of a run that can't remove what a stopped one left, and the line that says why.
+fn tell_unclear(rt: HostRuntime, shelf: &FolderShelf<HostRuntime>, trouble: Trouble) -> u8 {
+    match trouble {
+        Trouble::Failed => {
+            tell(&rt, "installed", &shelf.failures.last);
+            SHELF_FAILED
+        }
+        Trouble::Memory => NO_MEMORY,
+    }
+}
+
+/// Says whether this is the first of the words.
+fn is_command(words: &[Label], name: &str) -> bool {
+    words.first().is_some_and(|word| word.as_str() == name)
+}
+
+/// Says whether an address is among the words. No value begins with a hyphen, so this word is the option.
+fn has_address(words: &[Label]) -> bool {
+    words.iter().any(|word| word.as_str() == "--addr")
 }
 
 /// The status of a run after a text was flushed at its end.

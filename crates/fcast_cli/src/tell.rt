@@ -1,5 +1,6 @@
 //! What a person is told on standard error. Where standard error fails too, nothing is left to tell it.
 
+use edge_real::FolderFiles;
 use std::io;
 use std::io::Eprint;
 
@@ -18,5 +19,15 @@ pub fn tell_first(rt: &impl Eprint, parts: &[(&str, &Option<io::Error>)]) {
             tell(rt, *part, *last);
             return;
         }
+    }
+}
+
+/// Says which file's reading failed last, and the system's words for it.
+pub fn tell_file(rt: &impl Eprint, files: &FolderFiles<HostRuntime>) {
+    match (&files.failed, &files.failures.last) {
+        (Some(name), Some(error)) => {
+            let _told = eprintln!(rt; "fcast: files: {name}: {error}");
+        }
+        _ => tell(rt, "files", &files.failures.last),
     }
 }

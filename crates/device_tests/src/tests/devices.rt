@@ -84,6 +84,13 @@ pub const NONE: Fault = Fault {
     kind: ErrorKind::Other,
 };
 
+/// A signal interrupts each call.
+pub const ALWAYS: Fault = Fault {
+    first: 1,
+    last: u32::MAX,
+    kind: ErrorKind::Interrupted,
+};
+
 /// The call of this number fails in this way.
 pub fn at(call: u32, kind: ErrorKind) -> Fault {
     Fault {

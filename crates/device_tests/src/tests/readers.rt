@@ -1,9 +1,9 @@
 //! Bytes of a reader that is cut short and fails.
 
-use super::devices::{Fault, FaultyReader, at, compare_failures, reader};
+use super::devices::{ALWAYS, FaultyReader, at, compare_failures, reader};
 use super::same::same;
 use edge_io::{Bytes, Failed};
-use edge_real::ReaderBytes;
+use edge_real::{ReaderBytes, Tried};
 use std::io::ErrorKind;
 use std::process::Abort;
 use std::test::Fail;
@@ -47,24 +47,19 @@ fn failed_read_is_a_failure_and_no_end(rt: HostRuntime) -> Result<(), Fail> {
 }
 
 #[test]
-fn interrupted_read_is_tried_again(rt: HostRuntime) -> Result<(), Fail> {
+fn interrupted_read_is_tried_a_thousand_times(rt: HostRuntime) -> Result<(), Fail> {
     let alloc = rt.alloc();
     let mut out = [0u8; 4];
     let fault = at(1, ErrorKind::Interrupted);
-    let mut bytes = ReaderBytes::new(reader(alloc, b"a", fault)?);
+    let mut bytes = ReaderBytes::new(Tried::new(reader(alloc, b"a", fault)?));
     same(&rt, &bytes.read(&mut out), &Ok(1), 5);
     same(&rt, &out, b"a\0\0\0", 6);
     same(&rt, &bytes.read(&mut out), &Ok(0), 7);
     same(&rt, &bytes.failures.count, &0, 8);
 
-    let always = Fault {
-        first: 1,
-        last: u32::MAX,
-        kind: ErrorKind::Interrupted,
-    };
-    let mut never = ReaderBytes::new(reader(alloc, b"a", always)?);
+    let mut never = ReaderBytes::new(Tried::new(reader(alloc, b"a", ALWAYS)?));
     same(&rt, &never.read(&mut out), &Err(Failed), 9);
-    same(&rt, &never.reader.call, &1_000, 10);
-    same(&rt, &never.failures.count, &1, 11);
+    same(&rt, &never.reader.device.call, &1_000, 10);
+    compare_failures(&rt, &never.failures, 1, Some(ErrorKind::Other), 11);
     Ok(())
 }

@@ -61,9 +61,9 @@ pub fn receive<D: Datagrams>(
 #[test]
 fn datagrams_pass_from_socket_to_socket(rt: HostRuntime) -> Result<(), Fail> {
     let mut buffer = [0u8; 65_535];
-    let mut source = UdpDatagrams::new(rt);
+    let mut source = UdpDatagrams::new(Some(rt), None);
     let port = listen(&rt, &mut source, 1);
-    let mut sink = UdpEmit::new(rt, 0);
+    let mut sink = UdpEmit::new(Some(rt), 0);
     same(&rt, &sink.connect(&local(port)), &Ok(()), 2);
     for (size, row) in [(1, 3), (60, 4), (0, 5), (1_400, 6), (65_507, 7)] {
         send(&rt, &mut sink, size, Ok(()), row);
@@ -77,7 +77,7 @@ fn datagrams_pass_from_socket_to_socket(rt: HostRuntime) -> Result<(), Fail> {
 /// A log is no address, and nothing is sent before a `connect`.
 #[test]
 fn sink_fails_where_nothing_can_be_sent(rt: HostRuntime) -> Result<(), Fail> {
-    let mut sink = UdpEmit::new(rt, 0);
+    let mut sink = UdpEmit::new(Some(rt), 0);
     send(&rt, &mut sink, 2, FAILED, 10);
     same(&rt, &sink.connect(&Place::Log), &FAILED, 11);
     same(&rt, &sink.failures.count, &2, 12);
@@ -92,9 +92,9 @@ fn sink_fails_where_nothing_can_be_sent(rt: HostRuntime) -> Result<(), Fail> {
 
 #[test]
 fn port_in_use_is_a_failure(rt: HostRuntime) -> Result<(), Fail> {
-    let mut first = UdpDatagrams::new(rt);
+    let mut first = UdpDatagrams::new(Some(rt), None);
     let port = listen(&rt, &mut first, 18);
-    let mut second = UdpDatagrams::new(rt);
+    let mut second = UdpDatagrams::new(Some(rt), None);
     same(&rt, &second.connect(&local(port)), &Err(Failed), 19);
     compare_failures(&rt, &second.failures, 1, Some(ErrorKind::AddrInUse), 20);
     first.close();
@@ -108,10 +108,36 @@ fn port_in_use_is_a_failure(rt: HostRuntime) -> Result<(), Fail> {
 #[test]
 fn unconnected_source_fails(rt: HostRuntime) -> Result<(), Fail> {
     let mut buffer = [0u8; 65_535];
-    let mut source = UdpDatagrams::new(rt);
+    let mut source = UdpDatagrams::new(Some(rt), None);
     same(&rt, &source.next(&mut buffer), &Next::Failed, 23);
     same(&rt, &source.connect(&Place::Log), &Err(Failed), 24);
     same(&rt, &source.failures.count, &2, 25);
     same(&rt, &source.connected, &None, 26);
+    Ok(())
+}
+
+/// Where an end is asked for, it comes a second after the last datagram, and not before the first.
+/// A socket that is connected anew waits for its first datagram again.
+#[test]
+fn silence_is_the_end_where_that_is_asked_for(rt: HostRuntime) -> Result<(), Fail> {
+    let mut buffer = [0u8; 65_535];
+    let mut source = UdpDatagrams::new(Some(rt), Some(1));
+    let port = listen(&rt, &mut source, 27);
+    let mut sink = UdpEmit::new(Some(rt), 0);
+    same(&rt, &sink.connect(&local(port)), &Ok(()), 28);
+    send(&rt, &mut sink, 7, Ok(()), 29);
+    receive(&rt, &mut source, &mut buffer, 7, 30);
+    same(&rt, &source.next(&mut buffer), &Next::End, 31);
+    send(&rt, &mut sink, 60, Ok(()), 32);
+    receive(&rt, &mut source, &mut buffer, 60, 33);
+    same(&rt, &source.next(&mut buffer), &Next::End, 34);
+    same(&rt, &source.failures.count, &0, 35);
+
+    let port = listen(&rt, &mut source, 36);
+    same(&rt, &(source.idle, source.heard), &(Some(1), false), 37);
+    same(&rt, &sink.connect(&local(port)), &Ok(()), 38);
+    send(&rt, &mut sink, 0, Ok(()), 39);
+    receive(&rt, &mut source, &mut buffer, 0, 40);
+    same(&rt, &source.heard, &true, 41);
     Ok(())
 }

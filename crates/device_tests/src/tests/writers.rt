@@ -1,9 +1,9 @@
 //! Texts on a writer that is cut short and fails.
 
-use super::devices::{Fault, FaultyWriter, NONE, at, compare_failures, writer};
+use super::devices::{ALWAYS, Fault, FaultyWriter, NONE, at, compare_failures, writer};
 use super::same::same;
-use edge_io::{Text, Trouble};
-use edge_real::WriterText;
+use edge_io::{SureText, Text, Trouble};
+use edge_real::{EchoedText, Tried, WriterText};
 use std::alloc::Global;
 use std::io;
 use std::io::{BufWriter, ErrorKind};
@@ -74,20 +74,23 @@ fn failed_write_is_a_failure(rt: HostRuntime) -> Result<(), Fail> {
     Ok(())
 }
 
-/// A text on a device through a buffer of 64 bytes.
-fn held(alloc: Global, fault: Fault) -> io::Result<WriterText<BufWriter<FaultyWriter>>> {
-    let device = writer(alloc, 100, fault);
+/// A text on a device through a buffer.
+type Held = WriterText<BufWriter<Tried<FaultyWriter>>>;
+
+/// Such a text, whose buffer has 64 bytes.
+fn held(alloc: Global, fault: Fault) -> io::Result<Held> {
+    let device = Tried::new(writer(alloc, 100, fault));
     Ok(WriterText::new(BufWriter::with_capacity(alloc, 64, device)?))
 }
 
 /// Three lines go out at `finish`, and not before.
-fn finish_three(rt: &impl Abort, text: &mut WriterText<BufWriter<FaultyWriter>>) {
+fn finish_three(rt: &impl Abort, text: &mut Held) {
     for _ in 0..3 {
         same(rt, &text.write(b"line\n"), &Ok(()), 8);
     }
-    same(rt, &text.writer.get_ref().call, &0, 9);
+    same(rt, &text.writer.get_ref().device.call, &0, 9);
     same(rt, &text.finish(), &Ok(()), 10);
-    let device = text.writer.get_ref();
+    let device = &text.writer.get_ref().device;
     let wanted = b"line\nline\nline\n".as_slice();
     same(rt, &device.bytes.as_slice(), &wanted, 11);
     same(rt, &device.flushes, &1, 12);
@@ -101,13 +104,7 @@ fn finish_writes_out_what_is_held(rt: HostRuntime) -> Result<(), Fail> {
 }
 
 /// A line, and how `finish` answers.
-fn finish_one(
-    rt: &impl Abort,
-    text: &mut WriterText<BufWriter<FaultyWriter>>,
-    done: Result<(), Trouble>,
-    count: u64,
-    row: u32,
-) {
+fn finish_one(rt: &impl Abort, text: &mut Held, done: Result<(), Trouble>, count: u64, row: u32) {
     same(rt, &text.write(b"line\n"), &Ok(()), row);
     same(rt, &text.finish(), &done, row);
     same(rt, &text.failures.count, &count, row);
@@ -125,5 +122,41 @@ fn failed_flush_is_a_failure(rt: HostRuntime) -> Result<(), Fail> {
         let mut text = held(alloc, at(call, kind))?;
         finish_one(&rt, &mut text, done, count, row);
     }
+    Ok(())
+}
+
+#[test]
+fn interrupted_write_is_tried_a_thousand_times(rt: HostRuntime) -> Result<(), Fail> {
+    let mut text = held(rt.alloc(), ALWAYS)?;
+    finish_one(&rt, &mut text, FAILED, 1, 17);
+    same(&rt, &text.writer.get_ref().device.call, &1_000, 18);
+    compare_failures(&rt, &text.failures, 1, Some(ErrorKind::Other), 19);
+    Ok(())
+}
+
+/// Writes a line that is also said to this device, if any, and compares what both got.
+fn echo_line(
+    rt: &impl Abort,
+    alloc: Global,
+    echo: Option<FaultyWriter>,
+    said: Option<&[u8]>,
+    row: u32,
+) {
+    let mut text = EchoedText::new(SureText::new(Vec::new(alloc)), echo);
+    same(rt, &text.write(b"line\n"), &Ok(()), row);
+    same(rt, &text.text.written(), &b"line\n".as_slice(), row);
+    let found = text.echo.as_ref().map(|echo| echo.bytes.as_slice());
+    same(rt, &found, &said, row);
+}
+
+/// What is written is said too where there is a second writer, whether or not that one fails.
+#[test]
+fn echoed_text_says_what_it_writes(rt: HostRuntime) -> Result<(), Fail> {
+    let alloc = rt.alloc();
+    let sound = writer(alloc, 100, NONE);
+    let broken = writer(alloc, 100, at(1, ErrorKind::BrokenPipe));
+    echo_line(&rt, alloc, None, None, 20);
+    echo_line(&rt, alloc, Some(sound), Some(b"fcast: line\n"), 21);
+    echo_line(&rt, alloc, Some(broken), Some(b""), 22);
     Ok(())
 }

@@ -1,7 +1,7 @@
 //! The files in the current folder, over files of the tests' own where they run.
 
-use super::devices::compare_failures;
 use super::same::same;
+use super::tree::compare_failure;
 use edge_io::{FileFault, Files};
 use edge_real::FolderFiles;
 use std::fs::File;
@@ -87,8 +87,9 @@ fn folder_is_no_file_and_fails(rt: HostRuntime) -> Result<(), Fail> {
     let mut files = FolderFiles::new(rt);
     let failed = Err(FileFault::Failed);
     compare(&rt, &mut files, "files_folder", failed, (1, 0), 11);
-    let kind = Some(ErrorKind::IsADirectory);
-    compare_failures(&rt, &files.failures, 1, kind, 12);
+    compare_failure(&rt, &files.failures, ErrorKind::IsADirectory, 12);
+    let name = files.failed.as_ref().map(|name| name.as_str());
+    same(&rt, &name, &Some("files_folder"), 13);
     fs::remove_dir(&rt, "files_folder")?;
     Ok(())
 }
