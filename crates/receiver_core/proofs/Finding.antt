@@ -1,7 +1,7 @@
 -- What is known when the fresh objects are read and the candidates advanced.
 use Rattle.std.proofs.Common.{◌≡◌, ℕ, Bool, true, false, cond, ◌||◌, List, [], ◌∷◌, ◌++◌, ◌∙◌, refl, sym, ap, subst, map, take, drop, length, Option, Some, None}
 use Rattle.std.proofs.Common.{inl, inr, ◌⊎◌, eqb-true, arith, take_all, reverse}
-use Rattle.std.specs.Prelude.{is_some, option_map, ◌==◌, Result, OnErr, OnOk, IfOk, Ok, Err}
+use Rattle.std.specs.Prelude.{is_some, option_map, ◌==◌, Result, OnErr, IfOk, Ok, Err}
 use Rattle.std.specs.Option.{option_or, option_and_then}
 use Rattle.std.specs.List.{flat_map}
 use Rattle.std.specs.BTreeMap.{get}
@@ -27,11 +27,6 @@ use Rattle.receiver_core.proofs.Completing.{complete_descriptor, descriptor_of, 
 use Rattle.receiver_core.proofs.Candidacies.{new_candidates, in_candidates}
 use Rattle.receiver_core.proofs.Going.{IsEnded, IsKnown, each_ended, each_awaiting, all_went}
 use Rattle.receiver_core.proofs.Settles.{standing_there, Knows, Kept, known_is, all_standings}
-
--- what holds in any case holds of an answer
-pub on_ok_any : {T E : Type 0} {P : Type 0} (r : Result T E) → P → OnOk r P
-on_ok_any (Ok x) p = p
-on_ok_any (Err e) p = tt
 
 -- what holds of a value holds of the answer that is this value
 pub if_ok_is : {T E : Type 0} (P : T → Type 0) (r : Result T E) (y : T) → P y → IfOk r (λ x. x ≡ y) → IfOk r P

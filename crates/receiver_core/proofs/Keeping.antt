@@ -56,17 +56,6 @@ settling_at_start store known waiting no_entries none = record {
   best = λ t. complete_none (only (whole store.held) []) t refl;
 }
 
--- nothing is read yet
-pub nothing_read : (store : Store) (known : Standings) (waiting : Waiting) (installed : Option Shown) → known.entries ≡ [] → waiting.entries ≡ []
-    → IsAnnounced (whole store.held) installed → IsRead store known waiting 0 installed
-nothing_read store known waiting installed no_entries none announced = record {
-  within = omega arith;
-  standings = no_standings (whole store.held) known no_entries;
-  waits = none_waiting (whole store.held) known waiting none;
-  covered = λ t number listed e f. absurd (let both : false ≡ true = e in cc);
-  announced = announced;
-}
-
 -- what is settled is read, where no candidate is lost
 pub settling_read : (store : Store) (known : Standings) (waiting : Waiting) (n : ℕ) (installed : Option Shown)
     → IsSettling store known waiting n false installed → IsRead store known waiting n installed
@@ -217,17 +206,6 @@ forgotten s old found known before after n installed listed settling others gone
     ] refl;
   };
   waits = none_waiting (whole s.held) known after empty;
-  covered = λ kept. absurd (let both : true ≡ false = kept in cc);
-  best = settling.best;
-}
-
--- candidates may be lost at any time
-pub still_lost : (s : Store) (known : Standings) (waiting : Waiting) (n : ℕ) (lost : Bool) (installed : Option Shown)
-    → IsSettling s known waiting n lost installed → IsSettling s known waiting n true installed
-still_lost s known waiting n lost installed settling = record {
-  within = settling.within;
-  standings = settling.standings;
-  waits = settling.waits;
   covered = λ kept. absurd (let both : true ≡ false = kept in cc);
   best = settling.best;
 }

@@ -24,10 +24,6 @@ pub each_both : {A : Type 0} (P Q : A → Type 0) (xs : List A) → Each P xs �
 each_both P Q [] first second = tt
 each_both P Q (x ∷ xs) first second = ((first.0, second.0), each_both P Q xs first.1 second.1)
 
-pub each_map : {A B : Type 0} (P : A → Type 0) (Q : B → Type 0) (f : A → B) → ((x : A) → P x → Q (f x)) → (xs : List A) → Each P xs → Each Q (map f xs)
-each_map P Q f more [] all = tt
-each_map P Q f more (x ∷ xs) all = (more x all.0, each_map P Q f more xs all.1)
-
 pub each_flat_map : {A B : Type 0} (P : A → Type 0) (Q : B → Type 0) (f : A → List B) → ((x : A) → P x → Each Q (f x)) → (xs : List A) → Each P xs → Each Q (flat_map f xs)
 each_flat_map P Q f more [] all = tt
 each_flat_map P Q f more (x ∷ xs) all = each_append Q (f x) (flat_map f xs) (more x all.0) (each_flat_map P Q f more xs all.1)
