@@ -49,6 +49,13 @@ impl Rest {
         put_in_front(&mut self.runs, toi)
     }
 
+    /// Gives back the memory that isn't used, since many lists may wait for long.
+    fn fit(&mut self)
+        ensures { self.new ≡ self.old }
+    {
+        self.runs.shrink_to_fit();
+    }
+
     /// The identifier in front.
     pub fn first(&self) -> Option<u128>
         ensures { result ≡ first_of self.now }
@@ -142,5 +149,6 @@ pub fn rest_of(alloc: Global, listed: &[u128]) -> Result<Rest, AllocError>
         place -= 1;
         rest.push_front(listed[place])?;
     }
+    rest.fit();
     Ok(rest)
 }
