@@ -11,6 +11,7 @@ use Rattle.held_packets.specs.Whole.{whole}
 use Rattle.held_packets.proofs.Public.{tied_numbers}
 use Rattle.receiver_core.specs.Best.{Objects, complete, is_better, IsBestOf, Extends, NotOlder}
 use Rattle.receiver_core.specs.BestOf.{better_of, best_of, best}
+use Rattle.receiver_core.specs.Inner.Settling.{IsAnnounced}
 use Rattle.receiver_core.proofs.Completing.{complete_none, complete_named, complete_kept}
 
 -- not better than b, and b not better than i: not better than i
@@ -70,11 +71,6 @@ IsTop objects (Some b) t = (j : Shown) → complete objects t ≡ Some j → is_
 abbrev AreTopped : Objects → Option Shown → List ℕ → Type 0
 AreTopped objects r [] = Unit {0}
 AreTopped objects r (t ∷ ts) = IsTop objects r t × AreTopped objects r ts
-
--- it is announced itself
-abbrev pub IsAnnounced : Objects → Option Shown → Type 0
-IsAnnounced objects None = Unit {0}
-IsAnnounced objects (Some b) = complete objects b.descriptor_toi ≡ Some b
 
 -- what announces nothing is topped by all
 top_of_none : (objects : Objects) (r : Option Shown) (t : ℕ) → complete objects t ≡ None → IsTop objects r t

@@ -6,11 +6,13 @@ use Rattle.carousel_cid.specs.Instances.{Shown, toi_of}
 use Rattle.carousel_cid.specs.Repeats.{are_different}
 use Rattle.carousel_cid.specs.Kinds.{kind_of_object}
 use Rattle.carousel_cid.specs.declared.file_of.FileOf.{FileOf}
+use Rattle.carousel_cid.specs.declared.kind.Cause.{Cause}
 use Rattle.carousel_cid.specs.declared.kind.Kind.{Kind}
 use Rattle.carousel_cid.specs.declared.kind.Kind.TheVariants.{File, Descriptor, Unusable}
 use Rattle.carousel_cid.proofs.Public.{lists_differ}
 use Rattle.receiver_core.specs.Best.{Objects, file_of_kind, file_of, files_of, instance_of_kind, complete, Extends}
-use Rattle.receiver_core.specs.Inner.Candidates.{Each, is_file_at, kind_at}
+use Rattle.receiver_core.specs.Inner.Lists.{Each}
+use Rattle.receiver_core.specs.Inner.Candidates.{is_file_at, kind_at}
 
 -- an answer in two steps has both
 then_some : {A B : Type 0} (f : A → Option B) (o : Option A) (b : B) → option_and_then f o ≡ Some b → (a : A) × ((o ≡ Some a) × (f a ≡ Some b))
@@ -31,6 +33,20 @@ is_there_some (Some a) e = (a, refl)
 pub complete_none : (objects : Objects) (t : ℕ) → objects t ≡ None → complete objects t ≡ None
 unfolding complete
 complete_none objects t none = rw none refl
+
+-- nor does a file
+pub complete_file : (objects : Objects) (t : ℕ) (bytes location : List ℕ) (kind : Option (List ℕ)) (body : List ℕ) → objects t ≡ Some bytes
+    → kind_of_object bytes ≡ File location kind body → None ≡ complete objects t
+unfolding complete
+complete_file objects t bytes location kind body e is =
+    sym (ap (option_and_then (λ b. instance_of_kind objects t (kind_of_object b))) e ∙ ap (instance_of_kind objects t) is)
+
+-- nor what is unusable
+pub complete_unusable : (objects : Objects) (t : ℕ) (bytes : List ℕ) (cause : Cause) → objects t ≡ Some bytes
+    → kind_of_object bytes ≡ Unusable cause → None ≡ complete objects t
+unfolding complete
+complete_unusable objects t bytes cause e is =
+    sym (ap (option_and_then (λ b. instance_of_kind objects t (kind_of_object b))) e ∙ ap (instance_of_kind objects t) is)
 
 -- ---- the kind of what is complete
 

@@ -1,13 +1,15 @@
 -- What a receiver keeps between two calls.
-use Rattle.std.proofs.Common.{◌≡◌, ◌≤◌, ℕ, true, false, cond, ◌||◌, List, [], ◌∷◌, ◌++◌, ◌∙◌, refl, sym, ap, subst, arith, map}
+use Rattle.std.proofs.Common.{inl, inr, Bool}
+use Rattle.std.proofs.Common.{◌≡◌, ◌≤◌, ℕ, true, false, cond, ◌||◌, List, [], ◌∷◌, ◌++◌, ◌∙◌, refl, sym, ap, subst, arith}
 use Rattle.std.proofs.Common.{take, drop, length, ◌<◌, suc, get_or, Option, Some, None, take_all, length-append}
 use Rattle.std.specs.Prelude.{is_some, option_map, if◌then◌else◌, ◌==◌}
 use Rattle.std.proofs.Math.Seq.{drop-cons}
 use Rattle.std.proofs.lemmas.Bool.Decides.{nat_tests}
 use Rattle.std.specs.BTreeMap.{get}
+use Rattle.std.specs.Option.{option_and_then}
 use Rattle.std.specs.FinMap as maps
 use Rattle.std.specs.Ordering.{nat_cmp}
-use Rattle.std.proofs.lemmas.List.{take-append-le, take-map}
+use Rattle.std.proofs.lemmas.List.{take-append-le}
 use Rattle.oti_blocks.specs.Partition.{ObjectInformation}
 use Rattle.alc_packet.specs.Packet.{SymbolPacket, IsPacket}
 use Rattle.carousel_cid.specs.Kinds.{kind_of_object}
@@ -19,34 +21,55 @@ use Rattle.object_store.specs.Store.{Store, is_in, IsListed, ready_with}
 use Rattle.held_packets.specs.Verdict.{step, completes_object}
 use Rattle.held_packets.specs.Whole.{whole}
 use Rattle.held_packets.proofs.Public.{whole_after}
-use Rattle.receiver_core.specs.declared.candidate.Candidate.{Candidate}
 use Rattle.receiver_core.specs.declared.standing.Standing.{Standing}
 use Rattle.receiver_core.specs.declared.standing.Standing.TheVariants.{Whole}
-use Rattle.receiver_core.specs.Best.{Objects, IsBestOf, Extends}
+use Rattle.receiver_core.specs.Best.{Objects, IsBestOf, Extends, file_of_kind}
 use Rattle.receiver_core.specs.Receiver.{standing_of, standing_by}
-use Rattle.receiver_core.specs.Inner.Candidates.{Each, IsCandidate, AreEvery, toi_of}
+use Rattle.receiver_core.specs.Inner.Waiting.{Waiting, waiting_for, WaitsFor, AreWaiting, NamesNoFile, IsCovered, AreCovered}
 use Rattle.receiver_core.specs.Inner.Standings.{Standings, AreStandings, standing_of_bytes}
-use Rattle.receiver_core.specs.Inner.Settling.{only, IsSettling}
-use Rattle.receiver_core.proofs.Lists.{each_weaker, each_take, apart, in_parts}
+use Rattle.receiver_core.specs.Inner.Settling.{only, IsAnnounced, IsRead, IsSettling}
+use Rattle.receiver_core.proofs.Lists.{each_weaker, apart, in_parts}
 use Rattle.receiver_core.proofs.Completing.{complete_none, is_there_some}
 use Rattle.receiver_core.proofs.Candidacies.{candidate_kept}
-use Rattle.receiver_core.proofs.Settles.{only_all}
+use Rattle.receiver_core.proofs.Settles.{only_all, known_before}
 use Rattle.receiver_core.proofs.Bests.{whole_unopened}
 use Rattle.receiver_core.proofs.Finding.{fresh_are_whole}
 
 -- ---- at the start
 
-pub settling_at_start : (store : Store) (known : Standings) (cs : List Candidate) → known.entries ≡ [] → cs ≡ [] → IsSettling store known cs 0 None
-settling_at_start store known cs no_entries no_candidates = record {
+no_standings : (objects : Objects) (known : Standings) → known.entries ≡ [] → AreStandings objects [] known
+no_standings objects known empty = record {
+  there = λ t e. absurd (let both : false ≡ true = e in cc);
+  others = λ t e. rw empty refl;
+}
+
+-- where the map is empty, none waits
+pub none_waiting : (objects : Objects) (known : Standings) (waiting : Waiting) → waiting.entries ≡ [] → AreWaiting objects known waiting
+none_waiting objects known waiting empty t = rw empty tt
+
+pub settling_at_start : (store : Store) (known : Standings) (waiting : Waiting) → known.entries ≡ [] → waiting.entries ≡ [] → IsSettling store known waiting 0 false None
+settling_at_start store known waiting no_entries none = record {
   within = omega arith;
-  standings = record {
-    there = λ t e. absurd (let both : false ≡ true = e in cc);
-    others = λ t e. rw no_entries refl;
-  };
-  candidates = subst (Each (IsCandidate (whole store.held))) (sym no_candidates) tt;
-  every = λ t number listed e f. absurd (let both : false ≡ true = e in cc);
+  standings = no_standings (whole store.held) known no_entries;
+  waits = none_waiting (whole store.held) known waiting none;
+  covered = λ kept t number listed e f. absurd (let both : false ≡ true = e in cc);
   best = λ t. complete_none (only (whole store.held) []) t refl;
 }
+
+-- what is settled is read, where no candidate is lost
+pub settling_read : (store : Store) (known : Standings) (waiting : Waiting) (n : ℕ) (installed : Option Shown)
+    → IsSettling store known waiting n false installed → IsRead store known waiting n installed
+settling_read store known waiting n installed is = record {
+  within = is.within;
+  standings = is.standings;
+  waits = is.waits;
+  covered = is.covered refl;
+  announced = known_before (whole store.held) (take n store.ready) installed is.best;
+}
+
+pub settling_announced : (store : Store) (known : Standings) (waiting : Waiting) (n : ℕ) (lost : Bool) (installed : Option Shown)
+    → IsSettling store known waiting n lost installed → IsAnnounced (whole store.held) installed
+settling_announced store known waiting n lost installed is = known_before (whole store.held) (take n store.ready) installed is.best
 
 -- ---- with a packet
 
@@ -78,10 +101,36 @@ only_same first second ts same = λ i t. at t i where
     | false ↦ λ e. refl
   ] refl
 
+waiting_kept : (first second : Objects) (known : Standings) (waiting : Waiting) → Extends first second → AreWaiting first known waiting → AreWaiting second known waiting
+waiting_kept first second known waiting more are t = each_weaker (WaitsFor first known t) (WaitsFor second known t)
+    (λ c is. record { candidate = candidate_kept first second more c is.candidate; first = is.first; unknown = is.unknown }) (waiting_for waiting t) (are t)
+
+-- what is no file stays none
+names_kept : (first second : Objects) (listed : List ℕ) → Extends first second → NamesNoFile first listed → NamesNoFile second listed
+names_kept first second listed more is =
+    let t = is.0 in
+    let bytes = is_there_some (first t) is.1.1.0 in
+    let same : second t ≡ first t = more.keeps t bytes.0 bytes.1 ∙ sym bytes.1 in
+    (t, (is.1.0, (ap is_some same ∙ is.1.1.0, ap (λ o. is_some (option_and_then (λ b. file_of_kind t (kind_of_object b)) o)) same ∙ is.1.1.1)))
+
+covered_kept : (first second : Objects) (installed : Option Shown) (waiting : Waiting) (ts : List ℕ) → Extends first second
+    → ((t : ℕ) → is_in t ts ≡ true → second t ≡ first t) → AreCovered first installed waiting [] ts → AreCovered second installed waiting [] ts
+covered_kept first second installed waiting ts more same covered t number listed among kind =
+    elim (covered t number listed among (ap (option_map kind_of_object) (sym (same t among)) ∙ kind)) as (λ w. IsCovered second installed waiting [] t number listed) [
+      | inl waits ↦ inl waits
+      | inr rest ↦ elim rest as (λ w. IsCovered second installed waiting [] t number listed) [
+        | inl there ↦ inr (inl there)
+        | inr others ↦ elim others as (λ w. IsCovered second installed waiting [] t number listed) [
+          | inl worse ↦ inr (inr (inl worse))
+          | inr none ↦ inr (inr (inr (names_kept first second listed more none)))
+        ]
+      ]
+    ]
+
 -- with more objects, of which those that were settled are as before
-grown : (s r : Store) (known : Standings) (cs : List Candidate) (n : ℕ) (installed : Option Shown) → IsListed s.held s.ready → Extends (whole s.held) (whole r.held)
-    → take n r.ready ≡ take n s.ready → length s.ready ≤ length r.ready → IsSettling s known cs n installed → IsSettling r known cs n installed
-grown s r known cs n installed listed more front longer settling =
+grown : (s r : Store) (known : Standings) (waiting : Waiting) (n : ℕ) (lost : Bool) (installed : Option Shown) → IsListed s.held s.ready → Extends (whole s.held) (whole r.held)
+    → take n r.ready ≡ take n s.ready → length s.ready ≤ length r.ready → IsSettling s known waiting n lost installed → IsSettling r known waiting n lost installed
+grown s r known waiting n lost installed listed more front longer settling =
     let same = same_settled (whole s.held) (whole r.held) s.ready n in
     let again : (t : ℕ) → is_in t (take n s.ready) ≡ true → whole r.held t ≡ whole s.held t = λ t e. same t more listed.listed e in
     record {
@@ -90,41 +139,41 @@ grown s r known cs n installed listed more front longer settling =
         there = λ t e. settling.standings.there t e ∙ ap (option_map standing_of_bytes) (sym (again t e));
         others = settling.standings.others;
       });
-      candidates = each_weaker (IsCandidate (whole s.held)) (IsCandidate (whole r.held)) (candidate_kept (whole s.held) (whole r.held) more) cs settling.candidates;
-      every = subst (λ ts. AreEvery (whole r.held) ts cs) (sym front)
-          (λ t number ts e f. settling.every t number ts e (ap (option_map kind_of_object) (sym (again t e)) ∙ f));
+      waits = waiting_kept (whole s.held) (whole r.held) known waiting more settling.waits;
+      covered = λ kept. subst (AreCovered (whole r.held) installed waiting []) (sym front)
+          (covered_kept (whole s.held) (whole r.held) installed waiting (take n s.ready) more again (settling.covered kept));
       best = subst (λ ts. IsBestOf (only (whole r.held) ts) installed) (sym front)
           (subst (λ objects. IsBestOf objects installed) (sym (only_same (whole s.held) (whole r.held) (take n s.ready) again)) settling.best);
     }
 
-pub settling_kept : (s r : Store) (p : SymbolPacket) (kept : Kept) (known : Standings) (cs : List Candidate) (n : ℕ) (installed : Option Shown)
+pub settling_kept : (s r : Store) (p : SymbolPacket) (kept : Kept) (known : Standings) (waiting : Waiting) (n : ℕ) (lost : Bool) (installed : Option Shown)
     → IsListed s.held s.ready → IsHeldPair s.held → IsPacket p → r.held ≡ step s.budget s.held p → r.ready ≡ ready_with s.ready p kept
-    → IsSettling s known cs n installed → IsSettling r known cs n installed
-settling_kept s r p kept known cs n installed listed pair packet held ready settling =
+    → IsSettling s known waiting n lost installed → IsSettling r known waiting n lost installed
+settling_kept s r p kept known waiting n lost installed listed pair packet held ready settling =
     let more : Extends (whole s.held) (whole r.held) = record { keeps = λ t bytes e. ap (λ h. whole h t) held ∙ whole_after s.budget s.held p pair packet t bytes e } in
-    grown s r known cs n installed listed more (ap (take n) ready ∙ same_front n s.ready p kept settling.within)
+    grown s r known waiting n lost installed listed more (ap (take n) ready ∙ same_front n s.ready p kept settling.within)
     (let longer = no_fewer s.ready p kept in let same = ap (length {A = ℕ}) ready in omega arith) settling
 
 -- ---- after a settling
 
-pub settled_now : (s : Store) (known : Standings) (cs : List Candidate) (installed : Option Shown) → IsListed s.held s.ready → AreStandings (whole s.held) s.ready known
-    → Each (IsCandidate (whole s.held)) cs → AreEvery (whole s.held) s.ready cs → IsBestOf (whole s.held) installed → IsSettling s known cs (length s.ready) installed
-settled_now s known cs installed listed standings candidates every best =
+pub settled_now : (s : Store) (known : Standings) (waiting : Waiting) (installed : Option Shown) → IsListed s.held s.ready
+    → IsRead s known waiting (length s.ready) installed → IsBestOf (whole s.held) installed → IsSettling s known waiting (length s.ready) false installed
+settled_now s known waiting installed listed is best =
     let all : take (length s.ready) s.ready ≡ s.ready = take_all (length s.ready) s.ready (omega arith) in
     record {
-      within = omega arith;
-      standings = subst (λ ts. AreStandings (whole s.held) ts known) (sym all) standings;
-      candidates = candidates;
-      every = subst (λ ts. AreEvery (whole s.held) ts cs) (sym all) every;
+      within = is.within;
+      standings = is.standings;
+      waits = is.waits;
+      covered = λ kept. is.covered;
       best = subst (λ ts. IsBestOf (only (whole s.held) ts) installed) (sym all)
           (subst (λ objects. IsBestOf objects installed) (sym (only_all (whole s.held) s.ready listed.listed)) best);
     }
 
 -- where all were settled before, what is installed is the best
-pub settled_best : (s : Store) (known : Standings) (cs : List Candidate) (n : ℕ) (installed : Option Shown)
-    → IsListed s.held s.ready → IsSettling s known cs n installed → n ≡ length s.ready
+pub settled_best : (s : Store) (known : Standings) (waiting : Waiting) (n : ℕ) (lost : Bool) (installed : Option Shown)
+    → IsListed s.held s.ready → IsSettling s known waiting n lost installed → n ≡ length s.ready
     → IsBestOf (whole s.held) installed
-settled_best s known cs n installed listed settling all =
+settled_best s known waiting n lost installed listed settling all =
     subst (λ objects. IsBestOf objects installed) (ap (only (whole s.held)) (take_all n s.ready (omega (arith, all)))
     ∙ only_all (whole s.held) s.ready listed.listed) settling.best
 
@@ -140,13 +189,13 @@ not_all_settled s n listed less all =
     itself : (x : ℕ) → (x == x) ≡ true
     itself x = grind (arith, nat_tests)
 
--- where there was no memory, all is as before once the fresh standings are forgotten and the new candidates left out
-pub forgotten : (s : Store) (old found known : Standings) (cs more : List Candidate) (n : ℕ)
-    (installed : Option Shown) → IsListed s.held s.ready → IsSettling s old cs n installed
+-- where there was no memory, all is as before once the fresh standings are forgotten, but that candidates are lost
+pub forgotten : (s : Store) (old found known : Standings) (before after : Waiting) (n : ℕ) (installed : Option Shown) → IsListed s.held s.ready
+    → IsSettling s old before n false installed
     → ((t : ℕ) → is_in t (drop n s.ready) ≡ false → get nat_cmp found t ≡ get nat_cmp old t)
     → ((t : ℕ) → get nat_cmp known t ≡ cond (is_in t (drop n s.ready)) None (get nat_cmp found t))
-    → Each (IsCandidate (whole s.held)) more → take (length cs) (map toi_of more) ≡ map toi_of cs → IsSettling s known (take (length cs) more) n installed
-forgotten s old found known cs more n installed listed settling others gone candidates front = record {
+    → after.entries ≡ [] → IsSettling s known after n true installed
+forgotten s old found known before after n installed listed settling others gone empty = record {
   within = settling.within;
   standings = record {
     there = λ t e. let stale = apart n s.ready t listed.different e in
@@ -156,8 +205,8 @@ forgotten s old found known cs more n installed listed settling others gone cand
       | false ↦ λ stale. others t stale ∙ settling.standings.others t e
     ] refl;
   };
-  candidates = each_take (IsCandidate (whole s.held)) (length cs) more candidates;
-  every = λ t number ts e f. ap (is_in t) (sym (take-map toi_of (length cs) more) ∙ front) ∙ settling.every t number ts e f;
+  waits = none_waiting (whole s.held) known after empty;
+  covered = λ kept. absurd (let both : true ≡ false = kept in cc);
   best = settling.best;
 }
 

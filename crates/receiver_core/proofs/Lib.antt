@@ -1,7 +1,9 @@
 pub mod Lists
+pub mod Runs
 pub mod Completing
 pub mod Bests
 pub mod Candidacies
+pub mod Going
 pub mod Chosen
 pub mod Settles
 pub mod Keeping

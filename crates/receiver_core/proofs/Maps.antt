@@ -34,3 +34,13 @@ updated_more m n value was ts i less before updates t =
     ∙ ap (cond (get_or ts i 0 == t) (value (get_or ts i 0))) (before t)
     ∙ choices (get_or ts i 0 == t) (is_in t (take i ts)) (value (get_or ts i 0)) (value t) (was t) (λ e. ap value (eqb-true (get_or ts i 0) t e))
     ∙ ap (λ b. cond b (value t) (was t)) (sym (in_more ts i t less))
+
+-- of one more object none waits
+pub taken_more : {X : Type 0} (before after first : ℕ → X) (none : X) (ts : List ℕ) (i : ℕ) → i < length ts
+    → ((t : ℕ) → before t ≡ cond (is_in t (take i ts)) none (first t)) → ((t : ℕ) → after t ≡ cond (get_or ts i 0 == t) none (before t))
+    → (t : ℕ) → after t ≡ cond (is_in t (take (i + 1) ts)) none (first t)
+taken_more before after first none ts i less was step t =
+    step t
+    ∙ ap (cond (get_or ts i 0 == t) none) (was t)
+    ∙ choices (get_or ts i 0 == t) (is_in t (take i ts)) none none (first t) (λ e. refl)
+    ∙ ap (λ b. cond b none (first t)) (sym (in_more ts i t less))

@@ -1,5 +1,6 @@
 -- What a settling finds.
-use Rattle.std.proofs.Common.{◌≡◌, ◌≢◌, ℕ, Bool, true, false, cond, ◌||◌, List, [], ◌∷◌, ◌++◌, ◌∙◌, refl, sym, ap, subst, arith, map, take, drop, Option, Some, None}
+use Rattle.std.proofs.Common.{◌≡◌, ◌≢◌, ℕ, Bool, true, false, cond, ◌||◌, List, [], ◌++◌, ◌∙◌, refl, sym, ap, subst, arith, map, take, drop, Option, Some, None}
+use Rattle.std.proofs.Common.{inl, inr, ◌⊎◌, append-nil}
 use Rattle.std.specs.Prelude.{is_some, option_map, if◌then◌else◌}
 use Rattle.std.specs.Option.{option_or, option_and_then}
 use Rattle.std.specs.BTreeMap.{get}
@@ -14,15 +15,16 @@ use Rattle.object_store.specs.Store.{is_in}
 use Rattle.receiver_core.specs.declared.candidate.Candidate.{Candidate}
 use Rattle.receiver_core.specs.Best.{Objects, complete, files_of, file_of_kind, is_better, IsBestOf, Extends}
 use Rattle.receiver_core.specs.Receiver.{Announces, standing_of_kind}
-use Rattle.receiver_core.specs.Inner.Candidates.{candidates_in, toi_of, advanced, is_there, Each, is_file_at, kind_at, IsCandidate, AreEvery}
+use Rattle.receiver_core.specs.Inner.Lists.{Each}
+use Rattle.receiver_core.specs.Inner.Candidates.{toi_of, is_file_at, kind_at}
 use Rattle.receiver_core.specs.Inner.Choice.{is_above, beats_installed, beats, chosen}
 use Rattle.receiver_core.specs.Inner.Standings.{Standings, AreStandings, standing_of_bytes, is_file, is_known}
-use Rattle.receiver_core.specs.Inner.Settling.{only, Finds}
-use Rattle.receiver_core.proofs.Lists.{each_append, each_both, one_in, in_parts}
-use Rattle.receiver_core.proofs.Completing.{complete_descriptor, descriptor_of, complete_named, complete_kept, is_there_some}
-use Rattle.receiver_core.proofs.Bests.{IsAnnounced}
-use Rattle.receiver_core.proofs.Candidacies.{new_candidates, in_candidates, in_first, in_second, there_files}
-use Rattle.receiver_core.proofs.Chosen.{chosen_has, IsTopped, topped_all}
+use Rattle.receiver_core.specs.Inner.Waiting.{Waiting, IsCovered, AreCovered}
+use Rattle.receiver_core.specs.Inner.Settling.{only, Finds, IsAnnounced}
+use Rattle.receiver_core.proofs.Lists.{each_both, one_in, in_parts}
+use Rattle.receiver_core.proofs.Completing.{complete_descriptor, descriptor_of, complete_named, complete_kept, is_there_some, files_of_tests}
+use Rattle.receiver_core.proofs.Going.{IsEnded}
+use Rattle.receiver_core.proofs.Chosen.{chosen_has, topped_all}
 
 -- ---- what is known as a file is one
 
@@ -51,7 +53,7 @@ known_is objects ready known knows = λ i t. known_at objects ready known knows 
 
 -- ---- the standings with those of the fresh objects
 
-standing_there : (a b : Bool) (P : Type 0) → (a || b) ≡ true → (b ≡ true → P) → (b ≡ false → a ≡ true → P) → P
+pub standing_there : (a b : Bool) (P : Type 0) → (a || b) ≡ true → (b ≡ true → P) → (b ≡ false → a ≡ true → P) → P
 standing_there a true P e fresh front = fresh refl
 standing_there true false P e fresh front = front refl refl
 standing_there false false P e fresh front = absurd (let both : false ≡ true = e in cc)
@@ -72,42 +74,12 @@ all_standings objects n ready old new are step = record {
       step t ∙ ap (λ b. cond b (option_map standing_of_bytes (objects t)) (get nat_cmp old t)) parts.1 ∙ are.others t parts.0;
 }
 
--- ---- the candidates with the fresh ones, and how far their files are there
+-- ---- the best of those that ended
 
-pub all_every : (objects : Objects) (n : ℕ) (ready : List ℕ) (cs : List Candidate)
-    → AreEvery objects (take n ready) cs → AreEvery objects ready (cs ++ candidates_in objects (drop n ready))
-all_every objects n ready cs every t number listed among e =
-    standing_there (is_in t (take n ready)) (is_in t (drop n ready))
-    (is_in t (map toi_of (cs ++ candidates_in objects (drop n ready))) ≡ true) (sym (in_parts n ready t) ∙ among)
-    (λ fresh. in_second cs (candidates_in objects (drop n ready)) t (in_candidates objects (drop n ready) t number listed fresh e))
-    (λ stale front. in_first cs (candidates_in objects (drop n ready)) t (every t number listed front e))
-
-pub all_candidates : (objects : Objects) (ts : List ℕ) (cs : List Candidate) → Each (IsCandidate objects) cs → Each (IsCandidate objects) (cs ++ candidates_in objects ts)
-all_candidates objects ts cs are = each_append (IsCandidate objects) cs (candidates_in objects ts) are (new_candidates objects ts)
-
-pub advanced_tois : (f : ℕ → Bool) (cs : List Candidate) → map toi_of (map (advanced f) cs) ≡ map toi_of cs
-advanced_tois f [] = refl
-advanced_tois f (c ∷ cs) = ap (λ ts. c.toi ∷ ts) (advanced_tois f cs)
-
--- all its files are there where they are files
-abbrev pub Ends : Objects → Candidate → Type 0
-Ends objects c = is_some (files_of objects c.listed) ≡ true → is_there c ≡ true
-
--- ---- the best of them
-
--- what is known of all candidates before the choice
-pub record Knows (objects : Objects) (cs : List Candidate) : Type 0 where
-  pub candidates : Each (IsCandidate objects) cs
-  pub ends : Each (Ends objects) cs
-  pub every : (t : ℕ) (j : Shown) → complete objects t ≡ Some j → is_in t (map toi_of cs) ≡ true
-
--- what was found of a complete instance: its candidate, which is there
-record Found (objects : Objects) (installed best : Option Shown) (picked : Option Candidate) (j : Shown) : Type 0 where
-  c : Candidate
-  toi : c.toi ≡ j.descriptor_toi
-  number : c.number ≡ j.number
-  there : is_there c ≡ true
-  topped : beats_installed installed c ≡ true → beats picked c ≡ false
+-- what is known before the choice: all that is complete is among these candidates, or what is installed is as good
+pub record Knows (objects : Objects) (installed : Option Shown) (cs : List Candidate) : Type 0 where
+  pub ended : Each (IsEnded objects installed) cs
+  pub every : (t : ℕ) (j : Shown) → complete objects t ≡ Some j → (is_in t (map toi_of cs) ≡ true) ⊎ (beats_installed installed j.number t ≡ false)
 
 some_equal : {A : Type 0} (x y : A) → Some x ≡ Some y → x ≡ y
 some_equal x y e = cc
@@ -115,94 +87,161 @@ some_equal x y e = cc
 same_number : (n m : ℕ) (ts us : List ℕ) → Descriptor n ts ≡ Descriptor m us → n ≡ m
 same_number n m ts us e = cc
 
-find_candidate : (objects : Objects) (installed : Option Shown) (cs : List Candidate) → Knows objects cs → (t : ℕ) (j : Shown) → complete objects t ≡ Some j
-    → Found objects installed installed (chosen installed cs) j
-find_candidate objects installed cs knows t j e =
-    let all = each_both (λ c. IsCandidate objects c × Ends objects c) (IsTopped installed (chosen installed cs)) cs
-    (each_both (IsCandidate objects) (Ends objects) cs knows.candidates knows.ends) (topped_all installed cs None) in
-    let one = one_in (λ c. (IsCandidate objects c × Ends objects c) × IsTopped installed (chosen installed cs) c) toi_of cs t all (knows.every t j e) in
-    let c = one.0 in
-    let is = one.1.0.0.0 in
-    let ends = one.1.0.0.1 in
-    let named : j.descriptor_toi ≡ t = complete_named objects t j e in
-    let kind : Descriptor c.number c.listed ≡ Descriptor j.number j.listed =
-    some_equal (Descriptor c.number c.listed) (Descriptor j.number j.listed) (sym is.kind ∙ ap (kind_at objects) one.1.1 ∙ descriptor_of objects t j e) in
-    let number = same_number c.number j.number c.listed j.listed kind in
-    let files : is_some (files_of objects c.listed) ≡ true =
-    sym (is_some_map (λ fs. record { number = c.number; descriptor_toi = c.toi; listed = c.listed; files = fs }) (files_of objects c.listed))
-    ∙ ap is_some (sym (complete_descriptor objects c.toi c.number c.listed is.kind) ∙ ap (complete objects) one.1.1 ∙ e) in
-    record { c = c; toi = one.1.1 ∙ sym named; number = number; there = ends files; topped = one.1.0.1 (ends files) } where
-      is_some_map : {A B : Type 0} (f : A → B) (o : Option A) → is_some (option_map f o) ≡ is_some o
-      is_some_map f None = refl
-      is_some_map f (Some a) = refl
+-- a candidate among these, which isn't better than what is chosen
+record Topped (objects : Objects) (cs : List Candidate) (t number : ℕ) : Type 0 where
+  c : Candidate
+  toi : c.toi ≡ t
+  number_is : c.number ≡ number
+  topped : beats (chosen cs) c ≡ false
 
--- "c isn't above i" of a candidate is "j isn't better than i" of its instance
-as_better : (c : Candidate) (i j : Shown) → c.toi ≡ j.descriptor_toi → c.number ≡ j.number
-    → is_above c.number c.toi i.number i.descriptor_toi ≡ false → is_better j i ≡ false
-as_better c i j toi number e = subst (λ t. is_above j.number t i.number i.descriptor_toi ≡ false)
-    toi (subst (λ n. is_above n c.toi i.number i.descriptor_toi ≡ false) number e)
+find_topped : (objects : Objects) (installed : Option Shown) (cs : List Candidate) (t number : ℕ) (listed : List ℕ) → Each (IsEnded objects installed) cs
+    → kind_at objects t ≡ Some (Descriptor number listed) → is_in t (map toi_of cs) ≡ true → Topped objects cs t number
+find_topped objects installed cs t number listed are kind among =
+    let all = each_both (IsEnded objects installed) (λ d. beats (chosen cs) d ≡ false) cs are (topped_all cs) in
+    let one = one_in (λ c. IsEnded objects installed c × (beats (chosen cs) c ≡ false)) toi_of cs t all among in
+    let c = one.0 in
+    let is = one.1.0.0.candidate in
+    let kinds : Descriptor c.number (is.front ++ c.rest) ≡ Descriptor number listed =
+    some_equal (Descriptor c.number (is.front ++ c.rest)) (Descriptor number listed) (sym is.kind ∙ ap (kind_at objects) one.1.1 ∙ kind) in
+    record { c = c; toi = one.1.1; number_is = same_number c.number number (is.front ++ c.rest) listed kinds; topped = one.1.0.1 }
+
+-- where none is chosen, none is there
+none_there : (objects : Objects) (cs : List Candidate) (t number : ℕ) → Topped objects cs t number → chosen cs ≡ None → ⊥
+none_there objects cs t number top none = let both : true ≡ false = sym (ap (λ b. beats b top.c) none) ∙ top.topped in cc
+
+-- one that isn't better than what is chosen
+below_chosen : (objects : Objects) (cs : List Candidate) (c : Candidate) (t number : ℕ) → Topped objects cs t number → chosen cs ≡ Some c → is_above number t c.number c.toi ≡ false
+below_chosen objects cs c t number top is =
+    subst (λ u. is_above number u c.number c.toi ≡ false) top.toi
+    (subst (λ n. is_above n top.c.toi c.number c.toi ≡ false) top.number_is (sym (ap (λ b. beats b top.c) is) ∙ top.topped))
+
+named_better : (objects : Objects) (t : ℕ) (i j : Shown) → complete objects t ≡ Some j → is_above j.number t i.number i.descriptor_toi ≡ false → is_better j i ≡ false
+named_better objects t i j e below = subst (λ u. is_above j.number u i.number i.descriptor_toi ≡ false) (sym (complete_named objects t j e)) below
 
 -- where none is chosen, what is installed stays the best
-pub finds_none : (objects : Objects) (installed : Option Shown) (cs : List Candidate) → Knows objects cs
-    → IsAnnounced objects installed → chosen installed cs ≡ None → IsBestOf objects installed
+pub finds_none : (objects : Objects) (installed : Option Shown) (cs : List Candidate) → Knows objects installed cs
+    → IsAnnounced objects installed → chosen cs ≡ None → IsBestOf objects installed
 finds_none objects None cs knows announced none = λ t. elim (complete objects t) as (λ o. complete objects t ≡ o → o ≡ None) [
   | None ↦ λ e. refl
-  | Some j ↦ λ e. absurd (
-      let found = find_candidate objects None cs knows t j e in
-      let both : true ≡ false = sym (ap (λ b. beats b found.c) none) ∙ found.topped refl in cc)
+  | Some j ↦ λ e. absurd (elim (knows.every t j e) as (λ w. ⊥) [
+    | inl among ↦ none_there objects cs t j.number (find_topped objects None cs t j.number j.listed knows.ended (descriptor_of objects t j e) among) none
+    | inr worse ↦ let both : true ≡ false = worse in cc
+  ])
 ] refl
 finds_none objects (Some i) cs knows announced none = record {
   announced = announced;
-  greatest = λ t j e.
-      let found = find_candidate objects (Some i) cs knows t j e in
-      as_better found.c i j found.toi found.number (elim (beats_installed (Some i) found.c) as (λ b. beats_installed (Some i) found.c ≡ b → b ≡ false) [
-        | false ↦ λ h. refl
-        | true ↦ λ h. absurd (let both : true ≡ false = sym (ap (λ b. beats b found.c) none) ∙ found.topped h in cc)
-      ] refl);
+  greatest = λ t j e. named_better objects t i j e (elim (knows.every t j e) as (λ w. is_above j.number t i.number i.descriptor_toi ≡ false) [
+    | inl among ↦ absurd (none_there objects cs t j.number (find_topped objects (Some i) cs t j.number j.listed knows.ended (descriptor_of objects t j e) among) none)
+    | inr worse ↦ worse
+  ]);
 }
 
 -- what is no better than the installed one isn't better than what is
-not_twice : (c d : Candidate) (i : Shown) → is_above d.number d.toi i.number i.descriptor_toi ≡ false
-    → is_above c.number c.toi i.number i.descriptor_toi ≡ true → is_above d.number d.toi c.number c.toi ≡ false
-not_twice c d i first second = grind (arith, nat_tests)
+not_twice : (n t m u : ℕ) (i : Shown) → is_above m u i.number i.descriptor_toi ≡ false
+    → is_above n t i.number i.descriptor_toi ≡ true → is_above m u n t ≡ false
+not_twice n t m u i first second = grind (arith, nat_tests)
 
-not_beaten : (installed : Option Shown) (c d : Candidate) → beats_installed installed c ≡ true
-    → beats_installed installed d ≡ false → is_above d.number d.toi c.number c.toi ≡ false
-not_beaten None c d e f = absurd (let both : true ≡ false = f in cc)
-not_beaten (Some i) c d e f = not_twice c d i f e
+not_beaten : (installed : Option Shown) (n t m u : ℕ) → beats_installed installed n t ≡ true → beats_installed installed m u ≡ false → is_above m u n t ≡ false
+not_beaten None n t m u e f = absurd (let both : true ≡ false = f in cc)
+not_beaten (Some i) n t m u e f = not_twice n t m u i f e
 
 -- an instance that beats the installed one is another
-another : (installed : Option Shown) (c : Candidate) (files : List FileOf) → beats_installed installed c ≡ true
-    → Some (record { number = c.number; descriptor_toi = c.toi; listed = c.listed; files = files }) ≢ installed
-another None c files e = λ same. cc
-another (Some i) c files e = λ same.
-    let one : record { number = c.number; descriptor_toi = c.toi; listed = c.listed; files = files } ≡ i = cc in
+another : (installed : Option Shown) (c : Candidate) (listed : List ℕ) (files : List FileOf) → beats_installed installed c.number c.toi ≡ true
+    → Some (record { number = c.number; descriptor_toi = c.toi; listed = listed; files = files }) ≢ installed
+another None c listed files e = λ same. cc
+another (Some i) c listed files e = λ same.
+    let one : record { number = c.number; descriptor_toi = c.toi; listed = listed; files = files } ≡ i = cc in
     absurd (let both : true ≡ false = sym e ∙ ap (λ (x : Shown). is_above c.number c.toi x.number x.descriptor_toi) (sym one) ∙ itself c.number c.toi in cc) where
       itself : (n t : ℕ) → is_above n t n t ≡ false
       itself n t = grind (arith, nat_tests)
 
+-- what a candidate announces whose files are all there
+pub record Shows (objects : Objects) (c : Candidate) : Type 0 where
+  pub listed : List ℕ
+  pub files : List FileOf
+  pub announced : complete objects c.toi ≡ Some (record { number = c.number; descriptor_toi = c.toi; listed = listed; files = files })
+
+pub shows : (objects : Objects) (installed : Option Shown) (c : Candidate) → IsEnded objects installed c → Shows objects c
+shows objects installed c is =
+    let front = is.candidate.front in
+    let kind : kind_at objects c.toi ≡ Some (Descriptor c.number front) =
+    is.candidate.kind ∙ ap (λ ts. Some (Descriptor c.number (front ++ ts))) is.all ∙ ap (λ ts. Some (Descriptor c.number ts)) (append-nil front) in
+    let files = is_there_some (files_of objects front) (files_of_tests objects front is.candidate.files) in
+    record {
+      listed = front;
+      files = files.0;
+      announced = complete_descriptor objects c.toi c.number front kind
+          ∙ ap (option_map (λ fs. record { number = c.number; descriptor_toi = c.toi; listed = front; files = fs })) files.1;
+    }
+
 -- where one is chosen, what it announces is the best, and another one
 pub finds_some : (objects : Objects) (installed : Option Shown) (cs : List Candidate) (c : Candidate)
-    → Knows objects cs → chosen installed cs ≡ Some c → Finds objects installed (complete objects c.toi)
+    → Knows objects installed cs → chosen cs ≡ Some c → Finds objects installed (complete objects c.toi)
 finds_some objects installed cs c knows is =
-    let picked = chosen_has (IsCandidate objects) installed cs c knows.candidates is in
-    let files = is_there_some (files_of objects c.listed) (there_files objects c picked.0 picked.1.0) in
-    let j : Shown = record { number = c.number; descriptor_toi = c.toi; listed = c.listed; files = files.0 } in
-    let announced : complete objects c.toi ≡ Some j = complete_descriptor objects c.toi c.number c.listed picked.0.kind
-    ∙ ap (option_map (λ fs. record { number = c.number; descriptor_toi = c.toi; listed = c.listed; files = fs })) files.1 in
-    subst (Finds objects installed) (sym announced) (
+    let picked = chosen_has (IsEnded objects installed) cs c knows.ended is in
+    let shown = shows objects installed c picked in
+    let j : Shown = record { number = c.number; descriptor_toi = c.toi; listed = shown.listed; files = shown.files } in
+    subst (Finds objects installed) (sym shown.announced) (
       record {
-        announced = announced;
-        greatest = λ t k e.
-            let found = find_candidate objects installed cs knows t k e in
-            as_better found.c j k found.toi found.number (elim (beats_installed installed found.c)
-            as (λ b. beats_installed installed found.c ≡ b → is_above found.c.number found.c.toi c.number c.toi ≡ false) [
-              | true ↦ λ h. sym (ap (λ b. beats b found.c) is) ∙ found.topped h
-              | false ↦ λ h. not_beaten installed c found.c picked.1.1 h
-            ] refl);
+        announced = shown.announced;
+        greatest = λ t k e. named_better objects t j k e (elim (knows.every t k e) as (λ w. is_above k.number t c.number c.toi ≡ false) [
+          | inl among ↦ below_chosen objects cs c t k.number (find_topped objects installed cs t k.number k.listed knows.ended (descriptor_of objects t k e) among) is
+          | inr worse ↦ not_beaten installed c.number c.toi k.number t picked.beats worse
+        ]);
       },
-      another installed c files.0 picked.1.1,
+      another installed c shown.listed shown.files picked.beats,
     )
+
+-- ---- what is covered once the best is installed
+
+covered_none : (objects : Objects) (installed : Option Shown) (waiting : Waiting) (cs : List Candidate) (ts : List ℕ) → Each (IsEnded objects installed) cs
+    → chosen cs ≡ None → AreCovered objects installed waiting cs ts → AreCovered objects installed waiting [] ts
+covered_none objects installed waiting cs ts are none covered t number listed among kind =
+    elim (covered t number listed among kind) as (λ w. IsCovered objects installed waiting [] t number listed) [
+      | inl waits ↦ inl waits
+      | inr rest ↦ elim rest as (λ w. IsCovered objects installed waiting [] t number listed) [
+        | inl there ↦ absurd (none_there objects cs t number (find_topped objects installed cs t number listed are kind there) none)
+        | inr others ↦ inr (inr others)
+      ]
+    ]
+
+covered_some : (objects : Objects) (installed : Option Shown) (waiting : Waiting) (cs : List Candidate) (c : Candidate) (j : Shown) (ts : List ℕ)
+    → Each (IsEnded objects installed) cs → chosen cs ≡ Some c → beats_installed installed c.number c.toi ≡ true → j.number ≡ c.number → j.descriptor_toi ≡ c.toi
+    → AreCovered objects installed waiting cs ts → AreCovered objects (Some j) waiting [] ts
+covered_some objects installed waiting cs c j ts are is better same_n same_t covered t number listed among kind =
+    let as_new : is_above number t c.number c.toi ≡ false → beats_installed (Some j) number t ≡ false =
+    λ below. subst (λ n. is_above number t n j.descriptor_toi ≡ false) (sym same_n) (subst (λ u. is_above number t c.number u ≡ false) (sym same_t) below) in
+    elim (covered t number listed among kind) as (λ w. IsCovered objects (Some j) waiting [] t number listed) [
+      | inl waits ↦ inl waits
+      | inr rest ↦ elim rest as (λ w. IsCovered objects (Some j) waiting [] t number listed) [
+        | inl there ↦ inr (inr (inl (as_new (below_chosen objects cs c t number (find_topped objects installed cs t number listed are kind there) is))))
+        | inr others ↦ elim others as (λ w. IsCovered objects (Some j) waiting [] t number listed) [
+          | inl worse ↦ inr (inr (inl (as_new (not_beaten installed c.number c.toi number t better worse))))
+          | inr none ↦ inr (inr (inr none))
+        ]
+      ]
+    ]
+
+-- what is covered once what was found is installed
+pub record Kept (objects : Objects) (waiting : Waiting) (ts : List ℕ) (installed found : Option Shown) : Type 0 where
+  pub covered : AreCovered objects (option_or found installed) waiting [] ts
+  pub announced : IsAnnounced objects (option_or found installed)
+
+pub kept_none : (objects : Objects) (installed : Option Shown) (waiting : Waiting) (cs : List Candidate) (ts : List ℕ) → Each (IsEnded objects installed) cs
+    → IsAnnounced objects installed → AreCovered objects installed waiting cs ts → chosen cs ≡ None → Kept objects waiting ts installed None
+kept_none objects installed waiting cs ts are announced covered none =
+    record { covered = covered_none objects installed waiting cs ts are none covered; announced = announced }
+
+pub kept_some : (objects : Objects) (installed : Option Shown) (waiting : Waiting) (cs : List Candidate) (c : Candidate) (ts : List ℕ) → Each (IsEnded objects installed) cs
+    → IsAnnounced objects installed → AreCovered objects installed waiting cs ts → chosen cs ≡ Some c → Kept objects waiting ts installed (complete objects c.toi)
+kept_some objects installed waiting cs c ts are announced covered is =
+    let picked = chosen_has (IsEnded objects installed) cs c are is in
+    let shown = shows objects installed c picked in
+    subst (Kept objects waiting ts installed) (sym shown.announced) (record {
+      covered = covered_some objects installed waiting cs c (record { number = c.number; descriptor_toi = c.toi; listed = shown.listed; files = shown.files }) ts
+          are is picked.beats refl refl covered;
+      announced = shown.announced;
+    })
 
 -- ---- what was installed
 

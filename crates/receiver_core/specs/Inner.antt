@@ -1,5 +1,8 @@
+pub mod Lists
 pub mod Candidates
+pub mod Runs
 pub mod Choice
 pub mod Drops
 pub mod Standings
+pub mod Waiting
 pub mod Settling

@@ -6,30 +6,46 @@ ghost use Rattle.receiver_core.specs.Best.{complete, file_of, files_of, file_of_
 ghost use Rattle.receiver_core.specs.Inner.Candidates.{kind_at};
 
 use crate::candidate::Candidate;
-use carousel_cid::{FileList, FileOf, Instance, Kind, kind_of};
+use carousel_cid::{FileList, FileOf, Identifiers, Instance, Kind, kind_of};
 use object_store::Store;
 use std::alloc::{AllocError, Global};
 
-/// The instance that the candidate announces, where all its files are there. Each file's object is read again, so
-/// that its body is copied once, straight into the instance.
+/// The instance that the candidate announces, where all its files are there. Its object is read again, and each file's,
+/// so that a body is copied once, straight into the instance.
 pub fn instance_of(
     alloc: Global,
     store: &Store,
     candidate: &Candidate,
 ) -> Result<Option<Instance>, AllocError>
-    requires { kind_at (whole store.now.held) candidate.now.toi ≡ Some (Kind.Descriptor candidate.now.number candidate.now.listed) }
     ensures { IfOk result (λ i. i ≡ complete (whole store.now.held) candidate.now.toi) }
 {
-    let Some(files) = files_of(alloc, store, candidate.listed.as_slice())? else {
+    let Some(bytes) = store.whole(candidate.toi) else {
         return Ok(None);
     };
-    let listed = candidate.listed.copy()?;
-    Ok(Some(Instance::new(
-        candidate.number,
-        candidate.toi,
-        listed,
-        FileList::new(files),
-    )))
+    match kind_of(alloc, bytes)? {
+        Kind::Descriptor { number, listed } => {
+            announced(alloc, store, candidate.toi, number, listed)
+        }
+        Kind::File { .. } => Ok(None),
+        Kind::Unusable(_) => Ok(None),
+    }
+}
+
+/// The instance that this descriptor announces.
+fn announced(
+    alloc: Global,
+    store: &Store,
+    toi: u128,
+    number: u32,
+    listed: Identifiers,
+) -> Result<Option<Instance>, AllocError>
+    requires { kind_at (whole store.now.held) toi ≡ Some (Kind.Descriptor number listed) }
+    ensures { IfOk result (λ i. i ≡ complete (whole store.now.held) toi) }
+{
+    let Some(files) = files_of(alloc, store, listed.as_slice())? else {
+        return Ok(None);
+    };
+    Ok(Some(Instance::new(number, toi, listed, FileList::new(files))))
 }
 
 /// These objects as files, in order, where each is one.

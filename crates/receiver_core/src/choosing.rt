@@ -1,21 +1,17 @@
 //! The choice among the candidates.
 ghost use Rattle.std.specs.Prelude.{◌≡◌, option_map};
-ghost use Rattle.receiver_core.specs.Inner.Candidates.{is_there};
 ghost use Rattle.receiver_core.specs.Inner.Choice.{is_above, beats_installed, beats, chosen};
 
 use crate::candidate::Candidate;
 use carousel_cid::Instance;
 
-/// The best of the candidates whose files are all there and that are better than what is installed.
-pub fn choose<'a>(
-    installed: &Option<Instance>,
-    candidates: &'a [Candidate],
-) -> Option<&'a Candidate>
-    ensures { option_map (λ c. c.now) result ≡ chosen installed.now candidates.now }
+/// The best of the candidates.
+pub fn choose(candidates: &[Candidate]) -> Option<&Candidate>
+    ensures { option_map (λ c. c.now) result ≡ chosen candidates.now }
 {
     let mut best: Option<&Candidate> = None;
     for candidate in candidates {
-        if candidate.is_there() && candidate.beats_installed(installed) && candidate.beats(best) {
+        if candidate.beats(best) {
             best = Some(candidate);
         }
     }
@@ -23,15 +19,8 @@ pub fn choose<'a>(
 }
 
 impl Candidate {
-    /// Whether all its files are there.
-    fn is_there(&self) -> bool
-        ensures { result ≡ is_there self.now }
-    {
-        self.there == self.listed.as_slice().len()
-    }
-
-    fn beats_installed(&self, installed: &Option<Instance>) -> bool
-        ensures { result ≡ beats_installed installed.now self.now }
+    pub fn beats_installed(&self, installed: &Option<Instance>) -> bool
+        ensures { result ≡ beats_installed installed.now self.now.number self.now.toi }
     {
         match installed {
             None => true,

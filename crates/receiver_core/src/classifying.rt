@@ -1,5 +1,5 @@
 //! Reading the objects that have become ready.
-ghost use Rattle.std.specs.Prelude.{◌≡◌, ◌++◌, ℕ, true, false, cond, Some, OnOk, OnErr, is_some, option_map, take};
+ghost use Rattle.std.specs.Prelude.{◌≡◌, ◌++◌, ℕ, true, false, cond, Some, OnOk, OnErr, is_some, option_map};
 ghost use Rattle.std.specs.BTreeMap.{get, Updates};
 ghost use Rattle.std.specs.Ordering.{nat_cmp};
 ghost use Rattle.carousel_cid.specs.Kinds.{kind_of_object};
@@ -10,6 +10,7 @@ ghost use Rattle.receiver_core.specs.Inner.Standings.{standing_of_bytes};
 
 use crate::Standing;
 use crate::candidate::Candidate;
+use crate::rest::rest_of;
 use carousel_cid::{Kind, kind_of};
 use object_store::Store;
 use std::alloc::{AllocError, Global};
@@ -29,7 +30,6 @@ pub fn classify_all(
         get nat_cmp standings.new t ≡ cond (is_in t fresh.now) (option_map standing_of_bytes (whole store.now.held t)) (get nat_cmp standings.old t)) }
     ensures candidates { OnOk result (candidates.new.items ≡ candidates.old.items ++ candidates_in (whole store.now.held) fresh.now) }
     ensures others { OnErr result ((t : ℕ) → is_in t fresh.now ≡ false → get nat_cmp standings.new t ≡ get nat_cmp standings.old t) }
-    ensures more { OnErr result ((m : ℕ) × (candidates.new.items ≡ candidates.old.items ++ candidates_in (whole store.now.held) (take m fresh.now))) }
 {
     for toi in fresh {
         classify_at(alloc, store, *toi, standings, candidates)?;
@@ -37,7 +37,7 @@ pub fn classify_all(
     Ok(())
 }
 
-/// Reads one object, which is ready. Where there is no memory, nothing has changed.
+/// Reads one object, which is ready. Where there is no memory, the standings are as before.
 fn classify_at(
     alloc: Global,
     store: &Store,
@@ -49,7 +49,6 @@ fn classify_at(
     ensures standing { OnOk result (Updates nat_cmp standings.old standings.new toi (option_map standing_of_bytes (whole store.now.held toi))) }
     ensures candidates { OnOk result (candidates.new.items ≡ candidates.old.items ++ candidates_at (whole store.now.held) toi) }
     ensures same { OnErr result ((t : ℕ) → get nat_cmp standings.new t ≡ get nat_cmp standings.old t) }
-    ensures err { OnErr result (candidates.new.items ≡ candidates.old.items) }
 {
     let Some(bytes) = store.whole(toi) else {
         unreachable!()
@@ -57,7 +56,7 @@ fn classify_at(
     classify(alloc, toi, bytes, standings, candidates)
 }
 
-/// Reads an object of these bytes. The room for a candidate is taken before the standing goes into the map.
+/// Reads an object of these bytes. Its standing goes into the map last.
 fn classify(
     alloc: Global,
     toi: u128,
@@ -68,7 +67,6 @@ fn classify(
     ensures standing { OnOk result (Updates nat_cmp standings.old standings.new toi (Some (standing_of_bytes bytes.now))) }
     ensures candidates { OnOk result (candidates.new.items ≡ candidates.old.items ++ candidates_of toi (kind_of_object bytes.now)) }
     ensures same { OnErr result ((t : ℕ) → get nat_cmp standings.new t ≡ get nat_cmp standings.old t) }
-    ensures err { OnErr result (candidates.new.items ≡ candidates.old.items) }
 {
     match kind_of(alloc, bytes)? {
         Kind::File { .. } => {
@@ -78,17 +76,9 @@ fn classify(
             standings.insert(toi, Standing::Unusable(cause))?;
         }
         Kind::Descriptor { number, listed } => {
-            candidates.reserve(1)?;
+            let rest = rest_of(alloc, listed.as_slice())?;
+            candidates.push(Candidate { toi, number, rest })?;
             standings.insert(toi, Standing::Descriptor { number })?;
-            let candidate = Candidate {
-                toi,
-                number,
-                listed,
-                there: 0,
-            };
-            let Ok(()) = candidates.push(candidate) else {
-                unreachable!()
-            };
         }
     }
     Ok(())

@@ -6,11 +6,14 @@ mod candidate;
 mod choosing;
 mod classifying;
 pub mod laws;
+mod placing;
 mod reaching;
 mod receiver;
+mod rest;
 mod settling;
 mod standing;
 mod taken;
+mod waiting;
 
 pub use object_store::Kept;
 pub use receiver::Receiver;

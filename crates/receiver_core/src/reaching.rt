@@ -1,31 +1,30 @@
-//! How far the files of the candidates are there.
-ghost use Rattle.std.specs.Prelude.{◌≡◌, ◌+◌, drop, map};
-ghost use Rattle.receiver_core.specs.Inner.Candidates.{passing, advanced};
+//! How far the files of a candidate are there.
+ghost use Rattle.std.specs.Prelude.{◌≡◌};
+ghost use Rattle.receiver_core.specs.Inner.Lists.{behind, starts};
 ghost use Rattle.receiver_core.specs.Inner.Standings.{is_known};
 
 use crate::Standing;
-use crate::candidate::Candidate;
+use crate::rest::Rest;
 use std::collections::BTreeMap;
 
-/// Counts for each candidate the files that are there by now. Each listed identifier is looked up once as a file, and
-/// beside that each candidate costs one look-up.
-pub fn advance_all(standings: &BTreeMap<u128, Standing>, candidates: &mut Vec<Candidate>)
-    ensures { candidates.new.items ≡ map (advanced (is_known standings.now)) candidates.old.items }
+/// Takes those in front away that are known as files. Each identifier is looked up once as a file, and one more at the
+/// end.
+#[tactic(auto, using(crate::proofs::Lists::behind_passed, crate::proofs::Lists::behind_stopped, crate::proofs::Lists::after_shorter))]
+pub fn pass(standings: &BTreeMap<u128, Standing>, rest: &mut Rest)
+    ensures { rest.new ≡ behind (is_known standings.now) rest.old }
 {
-    for candidate in candidates.iter_mut() {
-        candidate.there = reach(standings, candidate.listed.as_slice(), candidate.there);
+    while starts_with_file(standings, rest) {
+        rest.drop_first();
     }
 }
 
-/// The first place from this one on whose object isn't known as a file.
-fn reach(standings: &BTreeMap<u128, Standing>, listed: &[u128], from: usize) -> usize
-    ensures { result ≡ from + passing (is_known standings.now) (drop from listed.now) }
+fn starts_with_file(standings: &BTreeMap<u128, Standing>, rest: &Rest) -> bool
+    ensures { result ≡ starts (is_known standings.now) rest.now }
 {
-    let mut place = from;
-    while place < listed.len() && is_file(standings, listed[place]) {
-        place += 1;
+    match rest.first() {
+        None => false,
+        Some(toi) => is_file(standings, toi),
     }
-    place
 }
 
 fn is_file(standings: &BTreeMap<u128, Standing>, toi: u128) -> bool

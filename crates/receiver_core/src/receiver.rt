@@ -10,9 +10,8 @@ ghost use Rattle.receiver_core.specs.Inner.Drops.{drops_after};
 ghost use Rattle.held_packets.specs.Verdict.{verdict, step, is_new, row_steps};
 ghost use Rattle.receiver_core.specs.Receiver.{Receiver, Announces, standing_of};
 
-use crate::candidate::Candidate;
-use crate::classifying::forget;
-use crate::settling::{find, fresh_of, install};
+use crate::settling::{find, install};
+use crate::waiting::Waiting;
 use crate::{Kept, Standing, Taken};
 use alc_packet::{Datagram, Packet};
 use carousel_cid::Instance;
@@ -25,12 +24,15 @@ use std::marker::Model;
 /// A receiver of one session: it keeps packets, and installs the best instance of what is whole.
 #[derive(Drop)]
 pub struct Receiver {
+    alloc: Global,
     tsi: u64,
     store: Store,
     /// The standing of each object that was settled.
     standings: BTreeMap<u128, Standing>,
-    /// The descriptors among them.
-    candidates: Vec<Candidate>,
+    /// The descriptors among them that may become the best, by what they wait for.
+    waiting: Waiting,
+    /// Whether want of memory has lost some of those.
+    lost: bool,
     /// So many of the store's ready objects, from the first on, were settled.
     settled: usize,
     /// The best instance of those.
@@ -51,7 +53,7 @@ impl Model for Receiver {
 
     ghost view = { λ a. record { tsi = a.tsi; budget = a.store.budget; held = a.store.held; installed = a.installed; settled = take a.settled a.store.ready; drops = a.drops } };
 
-    ghost invariant = { λ a. IsSettling a.store a.standings a.candidates.items a.settled a.installed };
+    ghost invariant = { λ a. IsSettling a.store a.standings a.waiting a.settled a.lost a.installed };
 }
 
 impl Receiver {
@@ -64,10 +66,12 @@ impl Receiver {
         ensures { IfOk result (λ r. r ≡ record { tsi = tsi; budget = budget; held = nothing_held; installed = None; settled = []; drops = 0 }) }
     {
         Ok(Receiver {
+            alloc,
             tsi,
             store: Store::start(alloc, budget)?,
             standings: BTreeMap::new(alloc),
-            candidates: Vec::new(alloc),
+            waiting: BTreeMap::new(alloc),
+            lost: false,
             settled: 0,
             installed: None,
             drops: 0,
@@ -158,27 +162,26 @@ impl Receiver {
         ensures err { OnErr result (self.new ≡ self.old) }
         ensures no_memory { ((t : ℕ) → is_some (whole self.old.held t) ≡ true → is_in t self.old.settled ≡ true) → IsOk result }
     {
-        let alloc = *self.candidates.allocator();
-        let before = self.candidates.as_slice().len();
         let count = self.store.ready().len();
         if self.settled == count {
             return Ok(None);
         }
         match find(
-            alloc,
+            self.alloc,
             &self.store,
             self.settled,
+            self.lost,
             &self.installed,
             &mut self.standings,
-            &mut self.candidates,
+            &mut self.waiting,
         ) {
             Ok(found) => {
+                self.lost = false;
                 self.settled = count;
                 Ok(install(&mut self.installed, found))
             }
             Err(error) => {
-                forget(&mut self.standings, fresh_of(&self.store, self.settled));
-                self.candidates.truncate(before);
+                self.lost = true;
                 Err(error)
             }
         }

@@ -68,6 +68,23 @@ fn two_that_share_a_file(rt: HostRuntime) -> Result<(), Fail> {
 }
 
 #[test]
+fn ranges_of_which_some_are_there(rt: HostRuntime) -> Result<(), Fail> {
+    let arrivals = [
+        (10, Descriptor(1, "5,1-3,7"), None, None),
+        (3, File, None, None),
+        (5, File, None, None),
+        (2, File, None, None),
+        (7, File, None, None),
+        (11, Descriptor(2, "1-7"), None, None),
+        (1, File, Some(1), Some((1, 10))),
+        (9, Descriptor(1, "4"), None, Some((1, 10))),
+        (4, File, Some(1), Some((1, 9))),
+        (6, File, Some(2), Some((2, 11))),
+    ];
+    ends_with(&rt, rt.alloc(), &arrivals, 401, Some((2, 11)))
+}
+
+#[test]
 fn a_lower_number_later(rt: HostRuntime) -> Result<(), Fail> {
     let arrivals = [
         (1, Descriptor(3, ""), Some(3), Some((3, 1))),

@@ -1,28 +1,23 @@
-use Rattle.std.proofs.Common.{◌≡◌, ◌∙◌, sym, ap, subst, rules, Some, None}
-use Rattle.carousel_cid.specs.Instances.{IsListed}
+use Rattle.std.proofs.Common.{◌≡◌, sym, rules, Some, None}
+use Rattle.carousel_cid.specs.Kinds.{kind_of_object}
+use Rattle.carousel_cid.specs.declared.kind.Kind.TheVariants.{File, Unusable}
 use Rattle.held_packets.specs.Whole.{whole}
-use Rattle.receiver_core.specs.Best.{files_of}
-use Rattle.receiver_core.proofs.Finding.{not_complete, made, listed_files}
+use Rattle.receiver_core.proofs.Completing.{complete_none, complete_file, complete_unusable}
 use Rattle.receiver_core.proofs.announcing.instance_of.Goals as goal
 
 pub returns-in_default : goal.returns-in_default
 returns-in_default c =
-    let none : files_of (whole c.args.store.now.held) c.args.candidate.now.listed ≡ None = search rules in
-    not_complete (whole c.args.store.now.held) c.args.candidate.now.toi c.args.candidate.now.number c.args.candidate.now.listed c.requires none
+    let none : whole c.args.store.now.held c.args.candidate.now.toi ≡ None = search rules in
+    sym (complete_none (whole c.args.store.now.held) c.args.candidate.now.toi none)
 
-pub new-requires-2 : goal.new-requires-2
-new-requires-2 c =
-    let are : files_of (whole c.args.store.now.held) c.args.candidate.now.listed ≡ Some c.in-Some.files.items = search rules in
-    let same : c.args.candidate.now.listed ≡ c.in_ok-listed.listed = search rules in
-    let files : c.in-Some.files.items ≡ c.new.result = search rules in
-    subst (λ ts. IsListed ts c.new.result) same (subst (λ fs. IsListed c.args.candidate.now.listed fs) files
-    (listed_files (whole c.args.store.now.held) c.args.candidate.now.toi c.args.candidate.now.number c.args.candidate.now.listed c.in-Some.files.items c.requires are))
+pub returns-in-File : goal.returns-in-File
+returns-in-File c =
+    let some : whole c.args.store.now.held c.args.candidate.now.toi ≡ Some c.in-Some.bytes.now = search rules in
+    let is : kind_of_object c.in-Some.bytes.now ≡ File c.in-File.location c.in-File.kind c.in-File.body = search rules in
+    complete_file (whole c.args.store.now.held) c.args.candidate.now.toi c.in-Some.bytes.now c.in-File.location c.in-File.kind c.in-File.body some is
 
 pub returns : goal.returns
 returns c =
-    let are : files_of (whole c.args.store.now.held) c.args.candidate.now.listed ≡ Some c.in-Some.files.items = search rules in
-    let is = made (whole c.args.store.now.held) c.args.candidate.now.toi c.args.candidate.now.number c.args.candidate.now.listed c.in-Some.files.items c.requires are in
-    let same : c.args.candidate.now.listed ≡ c.in_ok-listed.listed = search rules in
-    let files : c.in-Some.files.items ≡ c.new.result = search rules in
-    ap (λ i. Some i) (c.new-2.ensures
-    ∙ (λ k. record { number = c.args.candidate.now.number; descriptor_toi = c.args.candidate.now.toi; listed = sym same k; files = sym files k })) ∙ is
+    let some : whole c.args.store.now.held c.args.candidate.now.toi ≡ Some c.in-Some.bytes.now = search rules in
+    let is : kind_of_object c.in-Some.bytes.now ≡ Unusable c.in-Unusable.field-0 = search rules in
+    complete_unusable (whole c.args.store.now.held) c.args.candidate.now.toi c.in-Some.bytes.now c.in-Unusable.field-0 some is

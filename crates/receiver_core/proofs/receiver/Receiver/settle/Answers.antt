@@ -1,19 +1,16 @@
-use Rattle.std.proofs.Common.{◌≡◌, ◌≢◌, ◌<◌, ℕ, List, true, false, cond, ◌∙◌, sym, ap, subst, arith, rules, length, take, None, Option}
+use Rattle.std.proofs.Common.{◌≡◌, ◌≢◌, ◌<◌, ℕ, true, false, ◌∙◌, sym, ap, subst, arith, rules, length, Option}
 use Rattle.std.specs.Prelude.{is_some}
 use Rattle.std.specs.Option.{option_or}
-use Rattle.std.specs.BTreeMap.{get}
-use Rattle.std.specs.Ordering.{nat_cmp}
 use Rattle.carousel_cid.specs.Instances.{Shown}
 use Rattle.object_store.specs.Store.{is_in}
 use Rattle.held_packets.specs.Whole.{whole}
-use Rattle.receiver_core.specs.declared.candidate.Candidate.{Candidate}
 use Rattle.receiver_core.specs.Best.{IsBestOf}
 use Rattle.receiver_core.specs.BestOf.{best}
 use Rattle.receiver_core.specs.Receiver.{Receiver, Announces}
-use Rattle.receiver_core.specs.Inner.Settling.{IsSettling}
+use Rattle.receiver_core.specs.Inner.Settling.{IsRead, IsSettling}
 use Rattle.receiver_core.proofs.Bests.{best_is}
 use Rattle.receiver_core.proofs.Settles.{found_best, found_told}
-use Rattle.receiver_core.proofs.Keeping.{settled_now, settled_best, forgotten, not_all_settled}
+use Rattle.receiver_core.proofs.Keeping.{settled_now, settled_best, not_all_settled}
 use Rattle.receiver_core.proofs.receiver.Receiver.settle.Goals as goal
 
 pub returns-then-self-count-clause-best : goal.returns-then-self-count-clause-best
@@ -21,7 +18,7 @@ returns-then-self-count-clause-best c =
     let s = c.self.inside in
     let all : s.settled ≡ length c.ready-count.result.now = search rules in
     subst (λ (r : Receiver). r.installed ≡ best r.held) c.self.view_is (best_is s.store.held s.installed
-    (settled_best s.store s.standings s.candidates.items s.settled s.installed c.ready-count.ensures.listed
+    (settled_best s.store s.standings s.waiting s.settled s.lost s.installed c.ready-count.ensures.listed
     c.self.invariant (all ∙ ap (length {A = ℕ}) c.ready-count.ensures.ready)))
 
 pub returns-then-self-count-clause-answer : goal.returns-then-self-count-clause-answer
@@ -29,27 +26,16 @@ returns-then-self-count-clause-answer c =
     let s = c.self.inside in
     let all : s.settled ≡ length c.ready-count.result.now = search rules in
     subst (λ (r : Receiver). best r.held ≡ r.installed) c.self.view_is (sym (best_is s.store.held s.installed
-    (settled_best s.store s.standings s.candidates.items s.settled s.installed c.ready-count.ensures.listed
+    (settled_best s.store s.standings s.waiting s.settled s.lost s.installed c.ready-count.ensures.listed
     c.self.invariant (all ∙ ap (length {A = ℕ}) c.ready-count.ensures.ready))))
 
 pub invariant_of-self : goal.invariant_of-self
 invariant_of-self c =
     let s = c.self.inside in
-    subst (λ n. IsSettling s.store c.find.new.standings c.find.new.candidates.items n c.install.new.installed) (ap (length {A = ℕ}) (sym c.ready-count.ensures.ready))
-    (settled_now s.store c.find.new.standings c.find.new.candidates.items c.install.new.installed
-    c.ready-count.ensures.listed c.in-Ok.ensures.standings c.in-Ok.ensures.candidates c.in-Ok.ensures.every
+    subst (λ n. IsSettling s.store c.find.new.standings c.find.new.waiting n false c.install.new.installed) (ap (length {A = ℕ}) (sym c.ready-count.ensures.ready))
+    (settled_now s.store c.find.new.standings c.find.new.waiting c.install.new.installed c.ready-count.ensures.listed
+    (subst (IsRead s.store c.find.new.standings c.find.new.waiting (length s.store.ready)) (sym c.install.ensures.installed) c.in-Ok.ensures.ok)
     (subst (IsBestOf (whole s.store.held)) (sym c.install.ensures.installed) (found_best (whole s.store.held) s.installed c.in-Ok.found c.in-Ok.ensures.found)))
-
-pub invariant_of-self-in-Err : goal.invariant_of-self-in-Err
-invariant_of-self-in-Err c =
-    let s = c.self.inside in
-    subst (λ (cs : List Candidate). IsSettling s.store c.forget.new.standings cs s.settled s.installed)
-    (ap (λ (cs : List Candidate). take (length cs) c.find.new.candidates.items) (sym c.as_slice-before.ensures.value) ∙ sym c.truncate.ensures.items)
-    (forgotten s.store s.standings c.find.new.standings c.forget.new.standings s.candidates.items
-    c.find.new.candidates.items s.settled s.installed c.ready-count.ensures.listed c.self.invariant
-    c.in-Err.ensures.others
-    (λ t. c.forget.ensures t ∙ ap (λ ts. cond (is_in t ts) None (get nat_cmp c.find.new.standings t)) c.fresh_of.ensures.fresh)
-    c.in-Err.ensures.candidates c.in-Err.ensures.front)
 
 pub returns-in-Ok-clause-best : goal.returns-in-Ok-clause-best
 returns-in-Ok-clause-best c =
