@@ -4,4 +4,4 @@ use Rattle.edge_io.specs.declared.sure_shelf.SureShelf.{SureShelf}
 
 -- the shelf's fields, as what a shelf holds
 abbrev pub shelf_holds : SureShelf → Shelved
-shelf_holds s = record { done = s.done; number = s.number; files = s.files.items }
+shelf_holds s = record { done = s.done; number = s.number; files = s.files.items; accepted = s.accepted }

@@ -1,6 +1,6 @@
 -- The calls of a shelf, and what they make of what it holds.
 use Rattle.std.specs.Prelude.{ℕ, List, [], ◌∷◌}
-use Rattle.edge_io.specs.Shelved.{Shelved, part_of, with_file, finished}
+use Rattle.edge_io.specs.Shelved.{Shelved, begun, with_file, finished}
 
 pub data Call : Type 0 where
   Begin : (number : ℕ) → Call
@@ -9,7 +9,7 @@ pub data Call : Type 0 where
 
 -- what the shelf holds after the call, where it answers Ok
 abbrev pub after_call : Call → Shelved → Shelved
-after_call (Begin number) s = part_of number
+after_call (Begin number) s = begun s number
 after_call (Put toi body) s = with_file s toi body
 after_call (Finish manifest) s = finished s manifest
 

@@ -3,7 +3,7 @@
 ghost use Rattle.std.specs.Prelude.{◌≡◌, [], Option, ◌≤◌, OnOk, OnErr, IsErrOf, IsTrue, ◌↔◌};
 ghost use Rattle.std.specs.Option.{option_copied};
 ghost use Rattle.edge_io.specs.Faults.{Rose, one_more};
-ghost use Rattle.edge_io.specs.Shelved.{part_of, with_file, finished};
+ghost use Rattle.edge_io.specs.Shelved.{begun, with_file, finished};
 ghost use Rattle.edge_io.specs.StatedCalls.{fails_next, IsNextCall};
 ghost use Rattle.edge_io.specs.MemShelves.{shelf_holds};
 
@@ -26,6 +26,7 @@ impl MemShelf {
         ensures done { result.shelf.done ≡ done }
         ensures number { result.shelf.number ≡ 0 }
         ensures files { result.shelf.files.items ≡ [] }
+        ensures accepted { result.shelf.accepted ≡ 0 }
         ensures fails { result.calls.fails ≡ fails }
         ensures made { result.calls.made ≡ 0 }
         ensures failed { result.calls.failed ≡ 0 }
@@ -66,7 +67,7 @@ impl Shelf for MemShelf {
     ghost faults = { λ s. s.calls.failed };
 
     fn begin(&mut self, number: u32) -> Result<(), Trouble>
-        ensures ok { OnOk result (shelf_holds self.new.shelf ≡ part_of number) }
+        ensures ok { OnOk result (shelf_holds self.new.shelf ≡ begun (shelf_holds self.old.shelf) number) }
         ensures err { OnErr result (shelf_holds self.new.shelf ≡ shelf_holds self.old.shelf) }
         ensures exact { IsErrOf result Trouble.Failed ↔ IsTrue (fails_next self.old.calls) }
         ensures next { IsNextCall self.old.calls self.new.calls }

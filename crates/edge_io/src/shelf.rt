@@ -2,7 +2,7 @@
 
 ghost use Rattle.std.specs.Prelude.{◌≡◌, ℕ, ◌≤◌, OnOk, OnErr, IsErrOf};
 ghost use Rattle.edge_io.specs.Faults.{Rose};
-ghost use Rattle.edge_io.specs.Shelved.{Shelved, part_of, with_file, finished};
+ghost use Rattle.edge_io.specs.Shelved.{Shelved, begun, with_file, finished};
 
 use crate::Trouble;
 
@@ -22,7 +22,7 @@ pub trait Shelf {
     ///
     /// `Failed` where the device failed, and `Memory`. What is told stays as it was.
     fn begin(&mut self, number: u32) -> Result<(), Trouble>
-        ensures ok { OnOk result (told self.old → holds self.new ≡ part_of number) }
+        ensures ok { OnOk result (told self.old → holds self.new ≡ begun (holds self.old) number) }
         ensures err { OnErr result (told self.old → holds self.new ≡ holds self.old) }
         ensures told { told self.old → told self.new }
         ensures rose { IsErrOf result Trouble.Failed → Rose (faults self.old) (faults self.new) }

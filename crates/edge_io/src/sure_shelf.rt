@@ -15,6 +15,8 @@ pub struct SureShelf {
     pub number: u32,
     /// The files of the part.
     pub files: Vec<ShelvedFile>,
+    /// How many calls it accepted. The count stands still at the end of its type.
+    pub accepted: u64,
 }
 
 impl SureShelf {
@@ -23,11 +25,13 @@ impl SureShelf {
         ensures done { result.done ≡ done }
         ensures number { result.number ≡ 0 }
         ensures files { result.files.items ≡ [] }
+        ensures accepted { result.accepted ≡ 0 }
     {
         SureShelf {
             done,
             number: 0,
             files: Vec::new(alloc),
+            accepted: 0,
         }
     }
 
@@ -42,7 +46,7 @@ impl SureShelf {
 impl Shelf for SureShelf {
     ghost told = { λ _. Unit {0} };
 
-    ghost holds = { λ s. record { done = s.done; number = s.number; files = s.files.items } };
+    ghost holds = { λ s. record { done = s.done; number = s.number; files = s.files.items; accepted = s.accepted } };
 
     ghost faults = { λ _. 0 };
 
@@ -50,6 +54,7 @@ impl Shelf for SureShelf {
         self.done = None;
         self.number = number;
         self.files.clear();
+        self.accepted = self.accepted.saturating_add(1);
         Ok(())
     }
 
@@ -57,6 +62,7 @@ impl Shelf for SureShelf {
         let alloc = *self.files.allocator();
         let body = Vec::from_slice(alloc, body)?;
         self.files.push(ShelvedFile::new(toi, body))?;
+        self.accepted = self.accepted.saturating_add(1);
         Ok(())
     }
 
@@ -65,6 +71,7 @@ impl Shelf for SureShelf {
         let files = copied(alloc, self.files.as_slice())?;
         let manifest = Vec::from_slice(alloc, manifest)?;
         self.done = Some(FinishedInstance::new(self.number, files, manifest));
+        self.accepted = self.accepted.saturating_add(1);
         Ok(())
     }
 }

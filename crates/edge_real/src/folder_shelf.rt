@@ -2,7 +2,7 @@
 
 ghost use Rattle.std.specs.Prelude.{◌≡◌, ◌≤◌, OnOk, IsErrOf};
 ghost use Rattle.edge_io.specs.Faults.{Rose, one_more};
-ghost use Rattle.edge_io.specs.Shelved.{part_of};
+ghost use Rattle.edge_io.specs.Shelved.{bare};
 
 use crate::Failures;
 use crate::folder::{begin_part, file_path, move_in, put_file, remove_part, seal_part, set_aside};
@@ -68,7 +68,7 @@ impl<R: Files + AllocGlobal + Clone + Drop> FolderShelf<R> {
 impl<R: Files + AllocGlobal + Clone + Drop> Shelf for FolderShelf<R> {
     ghost told = { λ _. ⊥ };
 
-    ghost holds = { λ _. part_of 0 };
+    ghost holds = { λ _. bare };
 
     ghost faults = { λ s. s.failures.count };
 

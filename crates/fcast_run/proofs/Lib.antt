@@ -1,1 +1,3 @@
-pub mod Listened
+pub mod AtEnd
+pub mod Complete
+pub mod Gathering

@@ -1,1 +1,4 @@
+pub mod Listens
 pub mod ListensBest
+pub mod Runs
+pub mod Tasks

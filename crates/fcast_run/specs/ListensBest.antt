@@ -1,5 +1,5 @@
 -- What a listening that reads its list to its end installs and writes.
-use Rattle.std.specs.Prelude.{◌≡◌, ℕ, ◌+◌, List, ◌++◌}
+use Rattle.std.specs.Prelude.{◌≡◌, ℕ, List, ◌++◌}
 use Rattle.edge_io.specs.Shelved.{Shelved}
 use Rattle.held_packets.specs.Session.{Session}
 use Rattle.run_receive.specs.Events.{published_of}

@@ -1,20 +1,20 @@
 //! Receiving a session beside readers.
-ghost use Rattle.std.specs.Prelude.{◌≡◌, ◌≢◌, ◌≤◌, [], true, Some, IfOk, drop, map, vec_len, string_bytes};
+ghost use Rattle.std.specs.Prelude.{◌≡◌, ◌≤◌, [], true, Some, IfOk, drop, map, vec_len, string_bytes};
 ghost use Rattle.edge_io.specs.Faults.{Rose};
-ghost use Rattle.run_receive.specs.Outcome.{received};
-ghost use Rattle.run_base.specs.Bounds.{asked, IsCounted};
-ghost use Rattle.run_base.specs.Endings.{is_apart, is_base};
-ghost use Rattle.run_receive.specs.Events.{published};
-ghost use Rattle.run_base.specs.Answers.{Blames, AfterTaking, LeavesShelf, status_of_answer};
-ghost use Rattle.run_readers.specs.Listens.{LeavesLines, LeavesNothing, AddsLines, ComesOf};
-ghost use Rattle.run_words.specs.Ranges.{AreReaders};
+ghost use Rattle.run_base.specs.Answers.{Blames, AfterTaking, LeavesNothing, LeavesShelf};
+ghost use Rattle.run_base.specs.Outcome.{Pieces};
 ghost use Rattle.run_base.specs.Ranges.{IsInRange};
-ghost use Rattle.run_receive.specs.Tellings.{TellsEvents};
+ghost use Rattle.run_base.specs.Statuses.{is_one_of, leaves_shelf};
+ghost use Rattle.run_base.specs.Tellings.{Tells};
+ghost use Rattle.run_readers.specs.Listens.{LeavesLines, AddsLines, ComesOf};
+ghost use Rattle.run_receive.specs.Events.{published};
+ghost use Rattle.run_receive.specs.Outcome.{bound_statuses, received};
+ghost use Rattle.run_words.specs.Ranges.{AreReaders};
 ghost use Rattle.watch_list.specs.Hearing.{Heard};
 
 use crate::receive::receive;
 use edge_io::{Datagrams, Shelf, Text};
-use run_base::{Fault, tell};
+use run_base::{Fault, Status, tell};
 use run_readers::{Gate, Needs, Reader, Stage, Stopped, end_all, needs_of, push_lines, start};
 use run_words::Listening;
 use snapshot_hub::{Hub, Naming, Publisher, make};
@@ -43,28 +43,27 @@ pub fn receive_beside<
     shelf: &mut S,
     text: &mut T,
     watchers: &mut Vec<Box<dyn Watch>>,
-) -> Result<u8, Fault>
+) -> Result<Status, Fault>
     requires name { hub.book ≡ H.book }
     requires hub { hub.readers ≡ listening.now.readers }
     requires range { IsInRange listening.now.settings }
     requires readers { AreReaders listening.now.readers }
-    ensures base { IfOk result (λ s. is_base s ≡ true) }
-    ensures counted { IsCounted listening.now.settings.bound → IfOk result (λ s. s ≢ 11) }
+    ensures table { IfOk result (λ s. is_one_of (bound_statuses listening.now.settings.bound) s ≡ true) }
     ensures status { D.told datagrams.old → IfOk result (λ s. s ≡ (received listening.now.settings (D.left datagrams.old) (D.torn datagrams.old)).status) }
     ensures text { D.told datagrams.old → T.told text.old → LeavesLines result (published listening.now.settings (D.left datagrams.old)) listening.now.readers
-        (received listening.now.settings (D.left datagrams.old) (D.torn datagrams.old)).report (T.written text.old) (T.written text.new) }
-    ensures unwritten { T.told text.old → LeavesNothing result (T.written text.old) (T.written text.new) }
+        (received listening.now.settings (D.left datagrams.old) (D.torn datagrams.old)).text (T.written text.old) (T.written text.new) }
+    ensures unwritten { T.told text.old → LeavesNothing Pieces result (T.written text.old) (T.written text.new) }
     ensures shelf { D.told datagrams.old → S.told shelf.old →
         LeavesShelf result (received listening.now.settings (D.left datagrams.old) (D.torn datagrams.old)).calls (S.holds shelf.old) (S.holds shelf.new) }
-    ensures apart { is_apart (status_of_answer result) ≡ true → shelf.new ≡ shelf.old }
-    ensures left { D.told datagrams.old → AfterTaking result (D.left datagrams.new ≡ drop (asked listening.now.settings.bound) (D.left datagrams.old)) }
+    ensures apart { leaves_shelf result ≡ true → shelf.new ≡ shelf.old }
+    ensures left { D.told datagrams.old → AfterTaking result
+        (D.left datagrams.new ≡ drop (received listening.now.settings (D.left datagrams.old) (D.torn datagrams.old)).asked (D.left datagrams.old)) }
     ensures place { AfterTaking result (D.connected datagrams.new ≡ Some listening.now.settings.place) }
-    ensures blames { Blames result
-        (Rose (D.faults datagrams.old) (D.faults datagrams.new)) (Rose (T.faults text.old) (T.faults text.new)) (Rose (S.faults shelf.old) (S.faults shelf.new)) }
-    ensures events { D.told datagrams.old → TellsEvents result listening.now.settings.tsi listening.now.settings.budget listening.now.settings.bound (D.left datagrams.old)
-        (λ events. Heard (λ v. number v) (λ v. record_of v)
-        (λ v. (⟦<dyn Watch as Watch>⟧ v.vtable).told v.value) (λ v. (⟦<dyn Watch as Watch>⟧ v.vtable).faults v.value)
-        (λ v e n. refuses v e n) events watchers.old.items watchers.new.items) }
+    ensures blames { Blames result (Rose (D.faults datagrams.old) (D.faults datagrams.new)) (Rose (T.faults text.old) (T.faults text.new)) ⊥
+        (Rose (S.faults shelf.old) (S.faults shelf.new)) ⊥ }
+    ensures events { D.told datagrams.old → Tells result (received listening.now.settings (D.left datagrams.old) (D.torn datagrams.old)).events
+        (received listening.now.settings (D.left datagrams.old) (D.torn datagrams.old)).first_events
+        (λ events. Heard (λ v. hearing v) events watchers.old.items watchers.new.items) }
 {
     let count = listening.readers as usize;
     let Needs {
@@ -105,12 +104,12 @@ pub fn receive_beside<
 /// Writes the lines of the readers, where the run came to its end, and ends the publisher.
 fn finish<R: Wait + Copy, H: Naming, T: Text>(
     rt: &R,
-    done: Result<u8, Fault>,
+    done: Result<Status, Fault>,
     stage: Stage<R, H>,
     stopped: Vec<Stopped<H>>,
     lines: String,
     text: &mut T,
-) -> Result<u8, Fault>
+) -> Result<Status, Fault>
     requires few { vec_len stopped ≤ 16 }
     requires empty { string_bytes lines ≡ [] }
     ensures comes { ComesOf done result (Rose (T.faults text.old) (T.faults text.new)) }
@@ -125,13 +124,13 @@ fn finish<R: Wait + Copy, H: Naming, T: Text>(
 
 /// Writes the lines of the readers in one piece, where the run came to its end.
 fn tell_readers<H: Naming, T: Text>(
-    done: Result<u8, Fault>,
+    done: Result<Status, Fault>,
     publisher: &Publisher<H>,
     numbers: &[u32],
     stopped: Vec<Stopped<H>>,
     mut lines: String,
     text: &mut T,
-) -> Result<u8, Fault>
+) -> Result<Status, Fault>
     requires numbers { numbers.now ≡ map (λ i. i.number) publisher.now }
     requires few { vec_len stopped ≤ 16 }
     requires empty { string_bytes lines ≡ [] }

@@ -10,16 +10,14 @@ use watch_list::{Event, Watch};
 
 /// Tells the watchers what became of a datagram.
 pub fn tell_taken(watchers: &mut Vec<Box<dyn Watch>>, taken: &Taken)
-    ensures { Heard (λ v. number v) (λ v. record_of v) (λ v. told v) (λ v. faults v) (λ v e n. refuses v e n)
-        (event_of taken.now ∷ []) watchers.old.items watchers.new.items }
+    ensures { Heard (λ v. hearing v) (event_of taken.now ∷ []) watchers.old.items watchers.new.items }
 {
     let _dropped = tell_all(watchers, &event_of(taken));
 }
 
 /// Tells the watchers the number of another instance that is installed, where one is.
 pub fn tell_installed(watchers: &mut Vec<Box<dyn Watch>>, another: Option<u32>)
-    ensures { Heard (λ v. number v) (λ v. record_of v) (λ v. told v) (λ v. faults v) (λ v e n. refuses v e n)
-        (announcement another) watchers.old.items watchers.new.items }
+    ensures { Heard (λ v. hearing v) (announcement another) watchers.old.items watchers.new.items }
 {
     if let Some(number) = another {
         let _dropped = tell_all(watchers, &Event::Installed { number });

@@ -2,6 +2,7 @@
 #![tactic(auto)]
 
 mod beside;
+mod doing;
 mod edge;
 mod events;
 mod listen;

@@ -6,18 +6,18 @@ ghost use Rattle.run_base.specs.Bounds.{ending_of, limit, asked, datagrams_taken
 ghost use Rattle.run_receive.specs.HasTaken.{HasTaken, HasTakenSome};
 ghost use Rattle.run_base.specs.Answers.{Blames};
 ghost use Rattle.run_base.specs.Ranges.{IsInRange};
-ghost use Rattle.run_receive.specs.Tellings.{TellsEvents};
+ghost use Rattle.run_base.specs.Tellings.{HearsPart, Tells};
 ghost use Rattle.run_receive.specs.Showings.{with_option};
-ghost use Rattle.run_receive.specs.Events.{events_with, published_with, published_of, published, HearsPart};
+ghost use Rattle.run_receive.specs.Events.{events_of, events_with, published_with, published_of, published};
 ghost use Rattle.receiver_core.specs.BestOf.{best};
 ghost use Rattle.snapshot_hub.specs.Histories.{last_of};
 ghost use Rattle.watch_list.specs.Hearing.{Heard};
 
 use crate::events::{tell_installed, tell_taken};
-use edge_io::{Datagrams, Next};
+use edge_io::Datagrams;
 use receiver_core::Receiver;
 use rs_solve::Steps;
-use run_base::{Bound, Ending, Fault, Settings, datagram_buffer};
+use run_base::{Bound, Ending, Fault, Settings, Step, datagram_buffer, next_within};
 use run_receive::{Audience, show_installed};
 use std::alloc::{AllocError, Global};
 use watch_list::Watch;
@@ -47,11 +47,10 @@ pub fn gather<D: Datagrams, A: Audience>(
     ensures ending { IfOk result (λ g. D.told datagrams.old → g.ending ≡ ending_of settings.now.bound (D.left datagrams.old) (D.torn datagrams.old)) }
     ensures left { OnOk result (D.told datagrams.old → D.left datagrams.new ≡ drop (asked settings.now.bound) (D.left datagrams.old)) }
     ensures place { OnOk result (D.connected datagrams.new ≡ Some settings.now.place) }
-    ensures blames { Blames result (Rose (D.faults datagrams.old) (D.faults datagrams.new)) ⊥ ⊥ }
-    ensures events { D.told datagrams.old → TellsEvents result settings.now.tsi settings.now.budget settings.now.bound (D.left datagrams.old)
-        (λ events. Heard (λ v. number v) (λ v. record_of v)
-        (λ v. (⟦<dyn Watch as Watch>⟧ v.vtable).told v.value) (λ v. (⟦<dyn Watch as Watch>⟧ v.vtable).faults v.value)
-        (λ v e n. refuses v e n) events watchers.old.items watchers.new.items) }
+    ensures blames { Blames result (Rose (D.faults datagrams.old) (D.faults datagrams.new)) ⊥ ⊥ ⊥ ⊥ }
+    ensures events { D.told datagrams.old → Tells result (events_of settings.now.tsi settings.now.budget (take (limit settings.now.bound) (D.left datagrams.old)))
+        (λ n. events_of settings.now.tsi settings.now.budget (take n (D.left datagrams.old)))
+        (λ events. Heard (λ v. hearing v) events watchers.old.items watchers.new.items) }
     ensures shown { OnOk result (D.told datagrams.old → A.told → A.shown audience.new ≡ published settings.now (D.left datagrams.old)) }
 {
     let mut buffer = datagram_buffer(alloc)?;
@@ -76,7 +75,7 @@ fn take_all<D: Datagrams, A: Audience>(
     datagrams: &mut D,
     watchers: &mut Vec<Box<dyn Watch>>,
     audience: &mut A,
-    bound: Bound,
+    mut bound: Bound,
     buffer: &mut [u8],
 ) -> Result<Ending, Fault>
     requires buffer { 65535 ≤ length buffer.old }
@@ -90,35 +89,23 @@ fn take_all<D: Datagrams, A: Audience>(
     ensures ending { IfOk result (λ ending. D.told datagrams.old → ending ≡ ending_of bound (D.left datagrams.old) (D.torn datagrams.old)) }
     ensures left { OnOk result (D.told datagrams.old → D.left datagrams.new ≡ drop (asked bound) (D.left datagrams.old)) }
     ensures place { D.connected datagrams.new ≡ D.connected datagrams.old }
-    ensures blames { Blames result (Rose (D.faults datagrams.old) (D.faults datagrams.new)) ⊥ ⊥ }
+    ensures blames { Blames result (Rose (D.faults datagrams.old) (D.faults datagrams.new)) ⊥ ⊥ ⊥ ⊥ }
     ensures grows { D.faults datagrams.old ≤ D.faults datagrams.new }
-    ensures events { D.told datagrams.old → TellsEvents result receiver.old.tsi receiver.old.budget bound (D.left datagrams.old)
-        (λ events. Heard (λ v. number v) (λ v. record_of v)
-        (λ v. (⟦<dyn Watch as Watch>⟧ v.vtable).told v.value) (λ v. (⟦<dyn Watch as Watch>⟧ v.vtable).faults v.value)
-        (λ v e n. refuses v e n) events watchers.old.items watchers.new.items) }
+    ensures events { D.told datagrams.old → Tells result (events_of receiver.old.tsi receiver.old.budget (take (limit bound) (D.left datagrams.old)))
+        (λ n. events_of receiver.old.tsi receiver.old.budget (take n (D.left datagrams.old)))
+        (λ events. Heard (λ v. hearing v) events watchers.old.items watchers.new.items) }
     ensures shown { OnOk result (D.told datagrams.old → A.told →
         A.shown audience.new ≡ published_of receiver.old.tsi receiver.old.budget (take (limit bound) (D.left datagrams.old))) }
 {
     // Nobody asks how many row steps a run takes.
     let mut steps = Steps::start(());
-    for _taken in 0..bound.limit() {
-        match datagrams.next(buffer) {
-            Next::Got(size) => {
+    loop {
+        match next_within(datagrams, &mut bound, buffer)? {
+            Step::Got(size) => {
                 take_one(receiver, &mut steps, watchers, audience, &buffer[..size])?;
             }
-            Next::End => return Ok(Ending::End),
-            Next::Torn(place) => return Ok(Ending::Torn(place)),
-            Next::Failed => return Err(Fault::Datagrams),
+            Step::Ended(ending) => return Ok(ending),
         }
-    }
-    let Bound::Most(_most) = bound else {
-        return Ok(Ending::End);
-    };
-    match datagrams.next(buffer) {
-        Next::Got(_) => Ok(Ending::TooMany),
-        Next::End => Ok(Ending::End),
-        Next::Torn(place) => Ok(Ending::Torn(place)),
-        Next::Failed => Err(Fault::Datagrams),
     }
 }
 
@@ -140,13 +127,9 @@ fn take_one<L, A: Audience>(
     ensures tsi { receiver.new.tsi ≡ receiver.old.tsi }
     ensures budget { receiver.new.budget ≡ receiver.old.budget }
     ensures events { receiver.old.installed ≡ best receiver.old.held →
-        OnOk result (Heard (λ v. number v) (λ v. record_of v)
-        (λ v. (⟦<dyn Watch as Watch>⟧ v.vtable).told v.value) (λ v. faults v) (λ v e n. refuses v e n)
-        (events_with receiver.old.tsi receiver.old.budget receiver.old.held datagram.now) watchers.old.items watchers.new.items) }
+        OnOk result (Heard (λ v. hearing v) (events_with receiver.old.tsi receiver.old.budget receiver.old.held datagram.now) watchers.old.items watchers.new.items) }
     ensures part { OnErr result (HearsPart (events_with receiver.old.tsi receiver.old.budget receiver.old.held datagram.now)
-        (λ events. Heard (λ v. number v) (λ v. record_of v)
-        (λ v. (⟦<dyn Watch as Watch>⟧ v.vtable).told v.value) (λ v. faults v) (λ v e n. refuses v e n)
-        events watchers.old.items watchers.new.items)) }
+        (λ events. Heard (λ v. hearing v) events watchers.old.items watchers.new.items)) }
     ensures some { OnOk result (HasTakenSome receiver.new) }
     ensures last { OnOk result (A.told → last_of (A.shown audience.new) ≡ receiver.new.installed) }
     ensures room { OnOk result (A.told → length (A.shown audience.new) ≤ length (A.shown audience.old) + 1) }

@@ -1,4 +1,4 @@
-pub mod Answered
+pub mod AtEnd
 pub mod Lists
 pub mod Parts
 pub mod Public

@@ -1,9 +1,12 @@
 -- What is written or sent of a list where a run stops.
-use Rattle.std.proofs.Common.{◌≡◌, ℕ, ◌+◌, List, ◌++◌, ◌∙◌, sym, ap, length, take, drop, append_assoc}
+use Rattle.std.proofs.Common.{◌≡◌, ℕ, List, ◌++◌, ◌∙◌, sym, ap, length, take, drop, append_assoc}
 use Rattle.std.specs.Prelude.{Result, Ok, Err, OnErr}
 use Rattle.std.proofs.lemmas.List.{take-append-drop, append-nil}
 use Rattle.std.proofs.Math.Seq.{take-append_seam}
-use Rattle.run_base.specs.Endings.{AddsPart}
+use Rattle.run_base.specs.Answers.{AfterAll}
+use Rattle.run_base.specs.Outcome.{Streams}
+use Rattle.run_base.specs.Parts.{AddsPart}
+use Rattle.run_base.specs.declared.fault.Fault.{Fault}
 
 -- ---- what is written of a text is its first bytes
 
@@ -25,3 +28,8 @@ on_error (Err e) P holds = holds
 
 pub nothing_added : {A : Type 0} (list old new : List A) → new ≡ old → AddsPart list old new
 nothing_added list old new is = record { added = 0; all = is ∙ sym (append-nil old) }
+
+-- what holds does so once the datagrams were all taken
+pub holds_after : {A : Type 0} (r : Result A Fault) (P : Type 0) → P → AfterAll Streams r P
+holds_after (Ok a) P holds = holds
+holds_after (Err e) P holds = tt

@@ -1,4 +1,4 @@
 -- What the proofs of other crates may cite.
-pub use Rattle.run_base.proofs.Lists.{all_taken, ends_at, ends_last, next_of, none_left, not_more, one_behind}
-pub use Rattle.run_base.proofs.Parts.{front_written, nothing_added, on_error, part_of_front}
-pub use Rattle.run_base.proofs.Answered.{Ends, complete, done_at_end, ends_of, for_value, if_done, if_stopped, not_done, shelf_if_done, stopped_at, text_if_done, text_if_stopped}
+pub use Rattle.run_base.proofs.AtEnd.{IsAtEnd, at_end_of}
+pub use Rattle.run_base.proofs.Lists.{AreTaken, AreAllTaken, all_taken, less_more, less_none, limit_less, next_taken, none_taken, not_more, one_more_taken}
+pub use Rattle.run_base.proofs.Parts.{front_written, holds_after, nothing_added, on_error, part_of_front}

@@ -1,5 +1,5 @@
 -- How many datagrams of a list are taken, and how their taking ends.
-use Rattle.std.specs.Prelude.{ℕ, ◌+◌, nat_le, nat_lt, if◌then◌else◌, List, length, take, Option, Some, None}
+use Rattle.std.specs.Prelude.{◌≡◌, ℕ, ◌≤◌, ◌+◌, ◌-◌, nat_le, nat_lt, if◌then◌else◌, List, length, take, Option, Some, None}
 use Rattle.run_base.specs.declared.bound.Bound.{Bound}
 use Rattle.run_base.specs.declared.bound.Bound.TheVariants.{Most, Count}
 use Rattle.run_base.specs.declared.ending.Ending.{Ending}
@@ -14,6 +14,16 @@ ending_at (Some at) = Torn at
 abbrev pub limit : Bound → ℕ
 limit (Most most) = most
 limit (Count count) = count
+
+-- what is left of a bound once this many were taken
+abbrev pub less : Bound → ℕ → Bound
+less (Most most) taken = Most (most - taken)
+less (Count count) taken = Count (count - taken)
+
+-- one less is left, where one may still be taken
+abbrev pub LessOne : Option Bound → Bound → Type 0
+LessOne None bound = limit bound ≡ 0
+LessOne (Some left) bound = (1 ≤ limit bound) × (left ≡ less bound 1)
 
 -- the list ends with the last of so many
 abbrev pub IsCounted : Bound → Type 0

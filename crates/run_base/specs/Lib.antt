@@ -1,5 +1,9 @@
 pub mod Answers
 pub mod Bounds
-pub mod Endings
+pub mod Outcome
+pub mod Parts
 pub mod Ranges
+pub mod Statuses
+pub mod Steps
+pub mod Tellings
 pub mod Texts

@@ -1,5 +1,5 @@
 -- The ranges of a receiver's settings.
-use Rattle.std.specs.Prelude.{ℕ, ◌≤◌, ◌<◌, ◌^◌, Option, Some, None}
+use Rattle.std.specs.Prelude.{ℕ, ◌≤◌, ◌<◌, ◌^◌}
 use Rattle.run_base.specs.declared.settings.Settings.{Settings}
 use Rattle.run_base.specs.Bounds.{limit}
 
@@ -12,7 +12,3 @@ pub record IsInRange (c : Settings) : Type 0 where
   pub least : 4096 ≤ c.budget
   pub most : c.budget ≤ 2 ^ 30
   pub limit : IsCount (limit c.bound)
-
-abbrev pub IfInRange : Option Settings → Type 0
-IfInRange None = Unit {0}
-IfInRange (Some c) = IsInRange c

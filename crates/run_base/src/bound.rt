@@ -1,6 +1,6 @@
 //! How many datagrams of a list are taken.
 ghost use Rattle.std.specs.Prelude.{◌≡◌, ◌<◌, ◌^◌};
-ghost use Rattle.run_base.specs.Bounds.{limit};
+ghost use Rattle.run_base.specs.Bounds.{limit, LessOne};
 
 /// How many datagrams of a list are taken.
 #[derive(Clone, Copy, PartialEq, Eq, Debug)]
@@ -20,6 +20,17 @@ impl Bound {
         match self {
             Bound::Most(most) => most,
             Bound::Count(count) => count,
+        }
+    }
+
+    /// What is left of it once one datagram more is taken: nothing where none may be.
+    pub fn one_less(self) -> Option<Bound>
+        ensures { LessOne result self }
+    {
+        match self {
+            Bound::Most(0) | Bound::Count(0) => None,
+            Bound::Most(most) => Some(Bound::Most(most - 1)),
+            Bound::Count(count) => Some(Bound::Count(count - 1)),
         }
     }
 }

@@ -1,6 +1,4 @@
 //! What ends a run before its end.
-ghost use Rattle.std.specs.Prelude.{◌≡◌};
-ghost use Rattle.run_base.specs.Answers.{status_of};
 
 use std::alloc::AllocError;
 
@@ -11,24 +9,14 @@ pub enum Fault {
     Datagrams,
     /// The text failed.
     Text,
+    /// The sink failed.
+    Emit,
     /// The shelf failed.
     Shelf,
+    /// The files failed.
+    Files,
     /// There was no memory.
     Memory,
-}
-
-impl Fault {
-    /// The status that the run answers.
-    pub fn status(self) -> u8
-        ensures { result ≡ status_of self }
-    {
-        match self {
-            Fault::Datagrams => 4,
-            Fault::Text => 5,
-            Fault::Shelf => 6,
-            Fault::Memory => 9,
-        }
-    }
 }
 
 impl From<AllocError> for Fault {

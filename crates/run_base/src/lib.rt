@@ -6,7 +6,9 @@ mod buffer;
 mod ending;
 mod fault;
 mod lines;
+mod list;
 mod settings;
+mod status;
 mod writing;
 
 pub use bound::Bound;
@@ -14,5 +16,7 @@ pub use buffer::datagram_buffer;
 pub use ending::Ending;
 pub use fault::Fault;
 pub use lines::{push_ending, push_labelled, push_number, push_text};
+pub use list::{Step, next_within};
 pub use settings::Settings;
+pub use status::{Status, number};
 pub use writing::{tell, tell_usage, write};

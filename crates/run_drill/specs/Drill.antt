@@ -14,6 +14,9 @@ use Rattle.sender_plan.specs.CatalogInstance.{CatalogItem, CatalogInstance}
 use Rattle.sender_plan.specs.declared.params.Params.{Params}
 use Rattle.sender_plan.specs.Plan.{planned}
 use Rattle.sender_schedule.specs.Schedule.{schedule}
+use Rattle.run_base.specs.Outcome.{Outcome, Uses, text_outcome, text_uses}
+use Rattle.run_base.specs.declared.status.Status.{Status}
+use Rattle.run_base.specs.declared.status.Status.TheVariants as statuses
 use Rattle.run_base.specs.Texts.{line, number_line}
 use Rattle.run_drill.specs.declared.summary.Summary.{Summary}
 
@@ -159,14 +162,17 @@ summary_lines s =
     number_line (codes "sent ") s.sent ++ number_line (codes "delivered ") s.delivered
     ++ installed_line s.installed ++ files_line s.files s.total
 
-abbrev pub summary_status : Option ℕ → ℕ
-summary_status None = 2
-summary_status (Some number) = 0
+abbrev pub summary_status : Option ℕ → Status
+summary_status None = statuses.NothingInstalled
+summary_status (Some number) = statuses.Done
 
-pub record Drilled : Type 0 where
-  pub status : ℕ
-  pub text : List ℕ
+abbrev pub drill_statuses : List Status
+drill_statuses = statuses.Done ∷ statuses.NothingInstalled ∷ []
+
+-- a drill uses its text alone
+abbrev pub drill_uses : Uses
+drill_uses = text_uses drill_statuses
 
 -- the drill that starts with this number
-unfoldable pub drilled : ℕ → Drilled
-drilled start = record { status = summary_status (summary start).installed; text = summary_lines (summary start) }
+unfoldable pub drilled : ℕ → Outcome
+drilled start = text_outcome (summary_status (summary start).installed) (summary_lines (summary start)) 0

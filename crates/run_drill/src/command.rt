@@ -6,8 +6,9 @@ ghost use Rattle.held_packets.specs.Verdict.{held_after, steps_of};
 ghost use Rattle.receiver_core.specs.BestOf.{installed_after};
 ghost use Rattle.receiver_core.specs.Classes.{packets_of};
 ghost use Rattle.run_drill.specs.Drill as specs;
-ghost use Rattle.run_drill.specs.Drill.{HoldsPart, drilled};
-ghost use Rattle.run_base.specs.Endings.{is_base};
+ghost use Rattle.run_drill.specs.Drill.{HoldsPart, drill_statuses, drilled};
+ghost use Rattle.run_base.specs.Statuses.{is_one_of};
+ghost use Rattle.run_base.specs.Outcome.{Once};
 ghost use Rattle.run_base.specs.Answers.{Blames, LeavesText};
 
 use crate::feed::feed;
@@ -19,7 +20,7 @@ use compound_object::Blob;
 use edge_io::Text;
 use receiver_core::Receiver;
 use rs_solve::Steps;
-use run_base::{Fault, tell};
+use run_base::{Fault, Status, tell};
 use std::alloc::{AllocError, Global};
 
 /// The session of a drill.
@@ -73,12 +74,12 @@ fn deliveries(alloc: Global, start: u64) -> Result<Made, AllocError>
     })
 }
 
-/// Does the drill that starts with this number, writes its lines, and answers the status.
-pub fn drill<T: Text>(alloc: Global, start: u64, text: &mut T) -> Result<u8, Fault>
-    ensures base { IfOk result (λ s. is_base s ≡ true) }
+/// Does the drill that starts with this number, writes its lines, and answers how it ended.
+pub fn drill<T: Text>(alloc: Global, start: u64, text: &mut T) -> Result<Status, Fault>
+    ensures table { IfOk result (λ s. is_one_of drill_statuses s ≡ true) }
     ensures status { IfOk result (λ s. s ≡ (drilled start).status) }
-    ensures text { T.told text.old → LeavesText result (drilled start).text (T.written text.old) (T.written text.new) }
-    ensures blames { Blames result ⊥ (Rose (T.faults text.old) (T.faults text.new)) ⊥ }
+    ensures text { T.told text.old → LeavesText Once result (drilled start).text (T.written text.old) (T.written text.new) }
+    ensures blames { Blames result ⊥ (Rose (T.faults text.old) (T.faults text.new)) ⊥ ⊥ ⊥ }
 {
     let mut receiver = Receiver::start(alloc, TSI, BUDGET)?;
     // Nobody asks how many row steps a drill takes.

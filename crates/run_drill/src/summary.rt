@@ -1,9 +1,10 @@
 //! What came of a drill.
-ghost use Rattle.std.specs.Prelude.{◌≡◌, ◌++◌, IfOk, IfSome, OnOk, option_map, string_bytes};
+ghost use Rattle.std.specs.Prelude.{◌≡◌, ◌++◌, true, IfOk, IfSome, OnOk, option_map, string_bytes};
+ghost use Rattle.run_base.specs.Statuses.{is_one_of};
 ghost use Rattle.run_drill.specs.Drill as specs;
 
 use carousel_cid::{FileOf, Instance};
-use run_base::push_number;
+use run_base::{Status, push_number};
 use std::alloc::{AllocError, Global};
 
 /// What came of a drill.
@@ -107,12 +108,13 @@ fn push_files(alloc: Global, text: &mut String, files: u32, total: u64) -> Resul
     push_number(alloc, text, " ", u128::from(total))
 }
 
-/// The status of a drill: whether an instance is installed.
-pub fn summary_status(installed: Option<u32>) -> u8
-    ensures { result ≡ specs.summary_status installed }
+/// How a drill ends: by whether an instance is installed.
+pub fn summary_status(installed: Option<u32>) -> Status
+    ensures status { result ≡ specs.summary_status installed }
+    ensures table { is_one_of specs.drill_statuses result ≡ true }
 {
     match installed {
-        Some(_) => 0,
-        None => 2,
+        Some(_) => Status::Done,
+        None => Status::NothingInstalled,
     }
 }

@@ -1,15 +1,18 @@
 -- The lines of a dump, one after another, and the part of them that is written where it stops.
-use Rattle.std.proofs.Common.{◌≡◌, ℕ, ◌+◌, ◌≤◌, List, [], ◌∷◌, ◌++◌, ◌∙◌, sym, ap, arith, length, take, drop, append_assoc}
+use Rattle.std.proofs.Common.{◌≡◌, ℕ, ◌+◌, ◌≤◌, List, [], ◌∷◌, ◌++◌, ◌∙◌, refl, sym, ap, arith, length, take, drop, append_assoc}
 use Rattle.std.specs.Prelude.{Option, Result, Ok, Err, IfOk, OnOk, OnErr}
 use Rattle.std.proofs.lemmas.List.{append-nil, take-append-drop, take-take, length-take-le}
 use Rattle.run_base.specs.declared.bound.Bound.TheVariants.{Most}
 use Rattle.run_base.specs.declared.ending.Ending.{Ending}
 use Rattle.run_base.specs.declared.fault.Fault.{Fault}
 use Rattle.run_dump.specs.Dump.{dump_line, dump_lines, dump_status, dumped}
-use Rattle.run_base.specs.Endings.{AddsPart}
-use Rattle.run_base.specs.Bounds.{ending_of}
+use Rattle.run_base.specs.Parts.{AddsPart}
+use Rattle.run_base.specs.declared.status.Status.{Status}
+use Rattle.run_base.specs.Answers.{LeavesText}
+use Rattle.run_base.specs.Bounds.{asked, ending_of}
+use Rattle.run_base.specs.Outcome.{Streams}
 use Rattle.run_base.specs.Texts.{ending_line}
-use Rattle.run_base.proofs.Public.{front_written, part_of_front}
+use Rattle.run_base.proofs.Public.{front_written, nothing_added, part_of_front}
 
 lines_front : (place : ℕ) (ds es : List (List ℕ)) → dump_lines place (ds ++ es) ≡ dump_lines place ds ++ dump_lines (place + length ds) es
 lines_front place [] es = ap (λ n. dump_lines n es) (let none : place ≡ place + 0 = omega arith in none)
@@ -50,30 +53,33 @@ pub ended : (most : ℕ) (left left' : List (List ℕ)) (torn torn' : Option ℕ
     → ending ≡ ending_of (Most most) left' torn' → ending ≡ ending_of (Most most) left torn
 ended most left left' torn torn' ending same same_torn is = is ∙ ap (λ l. ending_of (Most most) l torn') same ∙ ap (ending_of (Most most) left) same_torn
 
-pub status_is : (most : ℕ) (left : List (List ℕ)) (torn : Option ℕ) (ending : Ending) (r : Result ℕ Fault) → ending ≡ ending_of (Most most) left torn
+pub status_is : (most : ℕ) (left : List (List ℕ)) (torn : Option ℕ) (ending : Ending) (r : Result Status Fault) → ending ≡ ending_of (Most most) left torn
     → IfOk r (λ s. s ≡ dump_status ending) → IfOk r (λ s. s ≡ (dumped most left torn).status)
 unfolding dumped
 status_is most left torn ending (Ok s) is status = status ∙ ap dump_status is
 status_is most left torn ending (Err f) is status = tt
 
-pub text_is : (r : Result ℕ Fault) (most : ℕ) (left : List (List ℕ)) (torn : Option ℕ) (ending : Ending) (told : Type 0) (old mid new : List ℕ)
+-- the lines and the end's, or the lines alone
+pub text_is : (r : Result Status Fault) (most : ℕ) (left : List (List ℕ)) (torn : Option ℕ) (ending : Ending) (told : Type 0) (old mid new : List ℕ)
     → told → ending ≡ ending_of (Most most) left torn → mid ≡ old ++ dump_lines 0 (take most left)
-    → OnOk r (told → new ≡ mid ++ ending_line ending) → OnOk r (new ≡ old ++ (dumped most left torn).text)
+    → OnOk r (told → new ≡ mid ++ ending_line ending) → OnErr r (told → new ≡ mid) → LeavesText Streams r (dumped most left torn).text old new
 unfolding dumped
-text_is (Ok s) most left torn ending told old mid new is_told is lines line =
+text_is (Ok s) most left torn ending told old mid new is_told is lines line same =
     line is_told ∙ ap (λ e. mid ++ ending_line e) is ∙ ap (λ t. t ++ ending_line (ending_of (Most most) left torn)) lines
     ∙ append_assoc old (dump_lines 0 (take most left)) (ending_line (ending_of (Most most) left torn))
-text_is (Err f) most left torn ending told old mid new is_told is lines line = tt
-
--- the lines alone, or a part of them
-pub lines_are_part : (r : Result ℕ Fault) (most : ℕ) (left : List (List ℕ)) (torn : Option ℕ) (told : Type 0) (old mid new : List ℕ)
-    → told → mid ≡ old ++ dump_lines 0 (take most left) → OnErr r (told → new ≡ mid) → OnErr r (AddsPart (dumped most left torn).text old new)
-unfolding dumped
-lines_are_part (Ok s) most left torn told old mid new is_told lines same = tt
-lines_are_part (Err f) most left torn told old mid new is_told lines same =
+text_is (Err f) most left torn ending told old mid new is_told is lines line same =
     front_written (dump_lines 0 (take most left)) (ending_line (ending_of (Most most) left torn)) old new (same is_told ∙ lines)
 
 pub part_is_part : (most : ℕ) (left : List (List ℕ)) (torn : Option ℕ) (old new : List ℕ)
     → AddsPart (dump_lines 0 (take most left)) old new → AddsPart (dumped most left torn).text old new
 unfolding dumped
 part_is_part most left torn old new part = part_of_front (dump_lines 0 (take most left)) (ending_line (ending_of (Most most) left torn)) old new part
+
+-- no line was written
+pub no_text : (most : ℕ) (left : List (List ℕ)) (torn : Option ℕ) (old : List ℕ) → AddsPart (dumped most left torn).text old old
+no_text most left torn old = nothing_added (dumped most left torn).text old old refl
+
+-- all that is asked for was read
+pub asks : (most : ℕ) (left : List (List ℕ)) (torn : Option ℕ) → (dumped most left torn).asked ≡ asked (Most most)
+unfolding dumped
+asks most left torn = refl

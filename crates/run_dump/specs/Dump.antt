@@ -1,5 +1,5 @@
 -- The lines of a dump: what each datagram says, and why the list wasn't read to its end. Numbers are decimal.
-use Rattle.std.specs.Prelude.{ℕ, ◌+◌, Bool, if◌then◌else◌, List, [], ◌∷◌, ◌++◌, length, take, Option, Result, Ok, Err, codes}
+use Rattle.std.specs.Prelude.{ℕ, ◌+◌, Bool, false, if◌then◌else◌, List, [], ◌∷◌, ◌++◌, length, take, Option, Some, None, Result, Ok, Err, codes}
 use Rattle.hex.specs.Hex.{encode_lower}
 use Rattle.oti_blocks.specs.Partition.{ObjectInformation}
 use Rattle.alc_packet.specs.Packet.{SymbolPacket}
@@ -8,10 +8,14 @@ use Rattle.alc_packet.specs.Reply.{reply}
 use Rattle.alc_packet.specs.declared.datagram.Datagram.{Datagram}
 use Rattle.alc_packet.specs.declared.datagram.Datagram.TheVariants.{Symbol, Control}
 use Rattle.alc_packet.specs.declared.refusal.Refusal.{Refusal}
+use Rattle.edge_io.specs.declared.place.Place.TheVariants.{Log}
 use Rattle.run_base.specs.declared.bound.Bound.TheVariants.{Most}
+use Rattle.run_base.specs.declared.status.Status.{Status}
+use Rattle.run_base.specs.declared.status.Status.TheVariants as statuses
 use Rattle.run_base.specs.declared.ending.Ending.{Ending}
 use Rattle.run_base.specs.declared.ending.Ending.TheVariants.{End, Torn, TooMany}
-use Rattle.run_base.specs.Bounds.{ending_of}
+use Rattle.run_base.specs.Bounds.{asked, ending_of}
+use Rattle.run_base.specs.Outcome.{Outcome, Uses, Streams, text_outcome}
 use Rattle.run_base.specs.Texts.{line, ending_line, labelled}
 
 -- the first 16 bytes in lower case, or all where there are fewer; a dash where there is none
@@ -65,18 +69,29 @@ abbrev pub dump_lines : ℕ → List (List ℕ) → List ℕ
 dump_lines place [] = []
 dump_lines place (datagram ∷ datagrams) = dump_line place datagram ++ dump_lines (place + 1) datagrams
 
-abbrev pub dump_status : Ending → ℕ
-dump_status End = 0
-dump_status (Torn at) = 3
-dump_status TooMany = 11
+abbrev pub dump_status : Ending → Status
+dump_status End = statuses.Done
+dump_status (Torn at) = statuses.Torn
+dump_status TooMany = statuses.TooMany
 
-pub record Dumped : Type 0 where
-  pub status : ℕ
-  pub text : List ℕ
+abbrev pub dump_statuses : List Status
+dump_statuses = statuses.Done ∷ statuses.Torn ∷ statuses.TooMany ∷ []
+
+-- a dump takes the log's datagrams, and writes while it does
+abbrev pub dump_uses : Uses
+dump_uses = record {
+  datagrams = Some Log;
+  emit = None;
+  files = false;
+  shelf = false;
+  watchers = false;
+  writes = Streams;
+  statuses = dump_statuses;
+}
 
 -- of at most so many of the datagrams that are left, where their log is torn there
-unfoldable pub dumped : ℕ → List (List ℕ) → Option ℕ → Dumped
-dumped most left torn = record {
-  status = dump_status (ending_of (Most most) left torn);
-  text = dump_lines 0 (take most left) ++ ending_line (ending_of (Most most) left torn);
-}
+unfoldable pub dumped : ℕ → List (List ℕ) → Option ℕ → Outcome
+dumped most left torn = text_outcome
+    (dump_status (ending_of (Most most) left torn))
+    (dump_lines 0 (take most left) ++ ending_line (ending_of (Most most) left torn))
+    (asked (Most most))

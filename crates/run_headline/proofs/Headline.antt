@@ -1,6 +1,5 @@
 -- A run that reads a session's datagrams to their end installs the best instance of what the kept packets make ready.
-use Rattle.std.proofs.Common.{◌≡◌, ℕ, true, false, List, [], ◌∷◌, ◌++◌, ◌∙◌, refl, sym, ap, subst, map, Option, Some, None, inl, inr, append_assoc}
-use Rattle.std.specs.Prelude.{◌⊎◌}
+use Rattle.std.proofs.Common.{◌≡◌, ℕ, true, false, List, [], ◌∷◌, ◌++◌, ◌∙◌, refl, sym, ap, subst, map, Option, Some, None, append_assoc}
 use Rattle.std.specs.List.{All}
 use Rattle.std.proofs.lemmas.List.{append-nil}
 use Rattle.held_packets.specs.Session.{Session, IsSession, IsOf, AreOf}
@@ -18,9 +17,11 @@ use Rattle.run_base.specs.declared.settings.Settings.{Settings}
 use Rattle.run_base.specs.declared.ending.Ending.{Ending}
 use Rattle.run_base.specs.declared.ending.Ending.TheVariants.{End, Torn, TooMany}
 use Rattle.run_receive.specs.Texts.{manifest, best_lines, over_line}
-use Rattle.run_receive.specs.Outcome.{Outcome, received, packets_taken, base_status, installing, put_of, outcome_of}
+use Rattle.run_receive.specs.Outcome.{received, packets_taken, base_status, installing, put_of, outcome_of}
 use Rattle.run_base.specs.Bounds.{datagrams_taken, ending_of}
-use Rattle.run_base.specs.Endings.{is_at_end}
+use Rattle.run_base.specs.declared.status.Status.{Status}
+use Rattle.run_base.specs.Outcome.{Outcome}
+use Rattle.run_base.specs.Statuses.{is_at_end}
 use Rattle.run_headline.specs.Headline.{IsDatagramOf, IsInstalled, InstallsBest}
 use Rattle.run_receive.proofs.Public.{after-append, packets_have}
 use Rattle.receiver_core.proofs.Public.{best_is_best}
@@ -33,55 +34,50 @@ packets_are s tsi ds all = packets_have (IsOf s) (IsDatagramOf s tsi) tsi
 
 -- ---- what the calls of an installation leave on the shelf
 
-puts_leave : (files : List FileOf) (s : Shelved) → after (map put_of files) s
-    ≡ record { done = s.done; number = s.number; files = s.files ++ map (λ f. (f.toi, f.body)) files }
-puts_leave [] s = ap (λ fs. record { done = s.done; number = s.number; files = fs }) (sym (append-nil s.files))
+puts_number : (files : List FileOf) (s : Shelved) → (after (map put_of files) s).number ≡ s.number
+puts_number [] s = refl
+puts_number (f ∷ files) s = puts_number files (with_file s f.toi f.body)
+
+puts_leave : (files : List FileOf) (s : Shelved) → (after (map put_of files) s).files ≡ s.files ++ map (λ f. (f.toi, f.body)) files
+puts_leave [] s = sym (append-nil s.files)
 puts_leave (f ∷ files) s =
-    puts_leave files (with_file s f.toi f.body)
-    ∙ ap (λ fs. record { done = s.done; number = s.number; files = fs }) (append_assoc s.files ((f.toi, f.body) ∷ []) (map (λ f. (f.toi, f.body)) files))
+    puts_leave files (with_file s f.toi f.body) ∙ append_assoc s.files ((f.toi, f.body) ∷ []) (map (λ f. (f.toi, f.body)) files)
 
 installs : (best : Option Shown) (old new : Shelved) → new ≡ after (installing best) old → IsInstalled best old new
 installs None old new is = is
 installs (Some i) old new is =
     let begun = after_call (Begin i.number) old in
-    ap (λ s. s.done) (is ∙ after-append (map put_of i.files) (Finish (manifest i) ∷ []) begun
-    ∙ ap (after_call (Finish (manifest i))) (puts_leave i.files begun))
+    let part = after (map put_of i.files) begun in
+    ap (λ s. s.done) (is ∙ after-append (map put_of i.files) (Finish (manifest i) ∷ []) begun)
+    ∙ ap (λ n. Some (record { number = n; files = part.files; manifest = manifest i })) (puts_number i.files begun)
+    ∙ ap (λ fs. Some (record { number = i.number; files = fs; manifest = manifest i })) (puts_leave i.files begun)
 
 -- ---- the end
 
 -- a status of a list that was read to its end comes of no other ending
-ends : (ending : Ending) (n : ℕ) (best : Option Shown) (result : ℕ) → is_at_end result ≡ true → result ≡ base_status ending n best → ending ≡ End
-ends End n best result at_end is = refl
-ends (Torn at) n best result at_end is = absurd (let both : true ≡ false = sym at_end ∙ ap is_at_end is in cc)
-ends TooMany n best result at_end is = absurd (let both : true ≡ false = sym at_end ∙ ap is_at_end is in cc)
-
-pub at_end_of : (result : ℕ) → (result ≡ 0) ⊎ (result ≡ 2) ⊎ (result ≡ 7) → is_at_end result ≡ true
-at_end_of result (inl e) = ap is_at_end e
-at_end_of result (inr (inl e)) = ap is_at_end e
-at_end_of result (inr (inr e)) = ap is_at_end e
-
-pub at_end_of_few : (result : ℕ) → (result ≡ 0) ⊎ (result ≡ 2) → is_at_end result ≡ true
-at_end_of_few result (inl e) = ap is_at_end e
-at_end_of_few result (inr e) = ap is_at_end e
+ends : (ending : Ending) (n : ℕ) (best : Option Shown) (status : Status) → is_at_end status ≡ true → status ≡ base_status ending n best → ending ≡ End
+ends End n best status at_end is = refl
+ends (Torn at) n best status at_end is = absurd (let both : true ≡ false = sym at_end ∙ ap is_at_end is in cc)
+ends TooMany n best status at_end is = absurd (let both : true ≡ false = sym at_end ∙ ap is_at_end is in cc)
 
 -- ---- the headline
 
-pub headline : (s : Session) (c : Settings) (left : List (List ℕ)) (torn : Option ℕ) (result : ℕ) (shelf shelf' : Shelved) (text text' : List ℕ)
-    → IsSession s → All (IsDatagramOf s c.tsi) (datagrams_taken c left) → is_at_end result ≡ true → result ≡ (received c left torn).status
-    → shelf' ≡ after (received c left torn).calls shelf → text' ≡ text ++ (received c left torn).report
+pub headline : (s : Session) (c : Settings) (left : List (List ℕ)) (torn : Option ℕ) (status : Status) (shelf shelf' : Shelved) (text text' : List ℕ)
+    → IsSession s → All (IsDatagramOf s c.tsi) (datagrams_taken c left) → is_at_end status ≡ true → status ≡ (received c left torn).status
+    → shelf' ≡ after (received c left torn).calls shelf → text' ≡ text ++ (received c left torn).text
     → InstallsBest s c (datagrams_taken c left) shelf shelf' text text'
 unfolding received
-headline s c left torn result shelf shelf' text text' session datagrams at_end status shelved written =
+headline s c left torn status shelf shelf' text text' session datagrams at_end is shelved written =
     let ps = packets_taken c left in
     let best = installed_after c.budget ps in
     let over = drops c.budget ps in
-    let end = ends (ending_of c.bound left torn) over best result at_end status in
-    let o : received c left torn ≡ outcome_of End over best = ap (λ e. outcome_of e over best) end in
+    let end = ends (ending_of c.bound left torn) over best status at_end is in
+    let o : received c left torn ≡ outcome_of c left End over best = ap (λ e. outcome_of c left e over best) end in
     record {
       best = best;
       greatest = subst (λ (objects : Objects). IsBestOf objects best)
           (λ i t. whole_is_sent s c.budget ps t session (packets_are s c.tsi (datagrams_taken c left) datagrams) i) (best_is_best (held_after c.budget ps));
       installed = installs best shelf shelf' (shelved ∙ ap (λ (u : Outcome). after u.calls shelf) o);
-      reported = written ∙ ap (λ (u : Outcome). text ++ u.report) o
+      reported = written ∙ ap (λ (u : Outcome). text ++ u.text) o
           ∙ ap (λ l. text ++ (best_lines best ++ l)) (append-nil (over_line over));
     }

@@ -3,7 +3,7 @@ use Rattle.std.specs.Prelude.{◌≡◌, ℕ, ◌+◌, List, [], ◌∷◌, ◌+
 use Rattle.std.specs.Fmt.{decimal}
 use Rattle.carousel_cid.specs.Instances.{Shown}
 use Rattle.snapshot_hub.specs.Histories.{last_of}
-use Rattle.run_base.specs.Endings.{AddsPart}
+use Rattle.run_base.specs.Parts.{AddsPart}
 use Rattle.run_base.specs.Texts.{line}
 
 abbrev pub number_or_none : Option ℕ → List ℕ

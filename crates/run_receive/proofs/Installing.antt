@@ -6,7 +6,7 @@ use Rattle.edge_io.specs.Shelved.{Shelved, with_file}
 use Rattle.edge_io.specs.ShelfCalls.{Call, after_call, after}
 use Rattle.carousel_cid.specs.declared.file_of.FileOf.{FileOf}
 use Rattle.run_receive.specs.Outcome.{put_of}
-use Rattle.run_base.specs.Endings.{AcceptsPart, AcceptsFewer}
+use Rattle.run_base.specs.Parts.{AcceptsPart, AcceptsFewer}
 
 pub after-append : (cs ds : List Call) (s : Shelved) → after (cs ++ ds) s ≡ after ds (after cs s)
 after-append [] ds s = refl

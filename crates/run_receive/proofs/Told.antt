@@ -1,23 +1,20 @@
 -- What watchers have heard of a list of datagrams, by the events of each datagram.
-use Rattle.std.proofs.Common.{◌≡◌, ℕ, ◌+◌, ◌≤◌, List, [], ◌∷◌, ◌++◌, ◌∙◌, refl, sym, ap, subst, arith, take, drop, append_assoc}
-use Rattle.std.specs.Prelude.{◌≢◌, Result, Ok, Err, IsErrAnd}
+use Rattle.std.proofs.Common.{◌≡◌, ℕ, ◌+◌, ◌≤◌, List, [], ◌∷◌, ◌++◌, ◌∙◌, refl, sym, ap, subst, take, drop, append_assoc}
+use Rattle.std.specs.Prelude.{Result, Ok, Err, IsErrAnd}
 use Rattle.std.proofs.lemmas.List.{append-nil, take-append-drop, take-take}
 use Rattle.held_packets.specs.Held.{Held, nothing_held}
 use Rattle.held_packets.specs.Verdict.{held_after}
 use Rattle.receiver_core.specs.Classes.{packets_of}
 use Rattle.receiver_core.specs.Receiver.{Receiver}
 use Rattle.watch_list.specs.declared.event.Event.{Event}
-use Rattle.watch_list.specs.Hearing.{Heard}
+use Rattle.watch_list.specs.Hearing.{Hearing, Heard}
 use Rattle.watch_list.proofs.Public.{heard_nothing, heard_more}
-use Rattle.run_base.specs.declared.bound.Bound.{Bound}
 use Rattle.run_base.specs.declared.fault.Fault.{Fault}
-use Rattle.run_base.specs.declared.fault.Fault.TheVariants.{Datagrams, Text, Shelf, Memory}
-use Rattle.run_base.specs.Bounds.{limit}
-use Rattle.run_receive.specs.Events.{events_with, events_from, events_of, HearsPart, HearsFirst}
+use Rattle.run_base.specs.declared.fault.Fault.TheVariants.{Datagrams, Text, Emit, Shelf, Files, Memory}
+use Rattle.run_base.specs.Tellings.{HearsPart, HearsFirst, Tells}
+use Rattle.run_receive.specs.Events.{events_with, events_from, events_of}
 use Rattle.run_base.specs.Answers.{Blames}
 use Rattle.run_receive.specs.HasTaken.{HasTaken}
-use Rattle.run_receive.specs.Tellings.{TellsEvents}
-use Rattle.run_base.proofs.Public.{Ends}
 use Rattle.run_receive.proofs.EventLists.{events_further}
 
 -- ---- the events of one datagram more
@@ -54,51 +51,44 @@ events_behind tsi budget i most left few =
 
 -- ---- what was heard of them
 
-pub heard_as : {B : Type 0} (number : B → ℕ) (record_of : B → List Event) (told : B → Type 0) (faults : B → ℕ) (refuses : B → Event → ℕ → Type 0)
-    (xs ys : List Event) (us ws : List B) → xs ≡ ys → Heard number record_of told faults refuses xs us ws → Heard number record_of told faults refuses ys us ws
-heard_as number record_of told faults refuses xs ys us ws is heard = subst (λ es. Heard number record_of told faults refuses es us ws) is heard
+pub heard_as : {B : Type 0} (hearing : B → Hearing) (xs ys : List Event) (us ws : List B) → xs ≡ ys → Heard hearing xs us ws → Heard hearing ys us ws
+heard_as hearing xs ys us ws is heard = subst (λ es. Heard hearing es us ws) is heard
 
-pub heard_next : {B : Type 0} (number : B → ℕ) (record_of : B → List Event) (told : B → Type 0) (faults : B → ℕ) (refuses : B → Event → ℕ → Type 0)
-    (xs ys zs : List Event) (us vs ws : List B) → zs ≡ xs ++ ys → Heard number record_of told faults refuses xs us vs
-    → Heard number record_of told faults refuses ys vs ws → Heard number record_of told faults refuses zs us ws
-heard_next number record_of told faults refuses xs ys zs us vs ws is first second =
-    heard_as number record_of told faults refuses (xs ++ ys) zs us ws (sym is) (heard_more number record_of told faults refuses xs ys us vs ws first second)
+pub heard_next : {B : Type 0} (hearing : B → Hearing) (xs ys zs : List Event) (us vs ws : List B) → zs ≡ xs ++ ys → Heard hearing xs us vs
+    → Heard hearing ys vs ws → Heard hearing zs us ws
+heard_next hearing xs ys zs us vs ws is first second =
+    heard_as hearing (xs ++ ys) zs us ws (sym is) (heard_more hearing xs ys us vs ws first second)
 
 -- of all datagrams that are taken, where no more than the first i were left
-pub heard_all : {B : Type 0} (number : B → ℕ) (record_of : B → List Event) (told : B → Type 0) (faults : B → ℕ) (refuses : B → Event → ℕ → Type 0)
-    (tsi budget i most : ℕ) (left : List (List ℕ)) (us ws : List B) → take most left ≡ take i left
-    → Heard number record_of told faults refuses (events_of tsi budget (take i left)) us ws
-    → Heard number record_of told faults refuses (events_of tsi budget (take most left)) us ws
-heard_all number record_of told faults refuses tsi budget i most left us ws is heard =
-    heard_as number record_of told faults refuses (events_of tsi budget (take i left)) (events_of tsi budget (take most left)) us ws
+pub heard_all : {B : Type 0} (hearing : B → Hearing) (tsi budget i most : ℕ) (left : List (List ℕ)) (us ws : List B) → take most left ≡ take i left
+    → Heard hearing (events_of tsi budget (take i left)) us ws
+    → Heard hearing (events_of tsi budget (take most left)) us ws
+heard_all hearing tsi budget i most left us ws is heard =
+    heard_as hearing (events_of tsi budget (take i left)) (events_of tsi budget (take most left)) us ws
     (sym (ap (events_of tsi budget) is)) heard
 
 -- nothing was told
-pub no_event_heard : {B : Type 0} (number : B → ℕ) (record_of : B → List Event) (told : B → Type 0) (faults : B → ℕ) (refuses : B → Event → ℕ → Type 0)
-    (events : List Event) (ws : List B) → HearsPart events (λ es. Heard number record_of told faults refuses es ws ws)
-no_event_heard number record_of told faults refuses events ws =
-    record { front = []; rest = events; is = refl; hears = heard_nothing number record_of told faults refuses ws }
+pub no_event_heard : {B : Type 0} (hearing : B → Hearing) (events : List Event) (ws : List B) → HearsPart events (λ es. Heard hearing es ws ws)
+no_event_heard hearing events ws =
+    record { front = []; rest = events; is = refl; hears = heard_nothing hearing ws }
 
-pub none_heard : {B : Type 0} (number : B → ℕ) (record_of : B → List Event) (told : B → Type 0) (faults : B → ℕ) (refuses : B → Event → ℕ → Type 0)
-    (tsi budget : ℕ) (left : List (List ℕ)) (ws : List B) → Heard number record_of told faults refuses (events_of tsi budget (take 0 left)) ws ws
+pub none_heard : {B : Type 0} (hearing : B → Hearing) (tsi budget : ℕ) (left : List (List ℕ)) (ws : List B) → Heard hearing (events_of tsi budget (take 0 left)) ws ws
 unfolding events_of
-none_heard number record_of told faults refuses tsi budget left ws = heard_nothing number record_of told faults refuses ws
+none_heard hearing tsi budget left ws = heard_nothing hearing ws
 
-pub no_datagram_heard : {B : Type 0} (number : B → ℕ) (record_of : B → List Event) (told : B → Type 0) (faults : B → ℕ) (refuses : B → Event → ℕ → Type 0)
-    (tsi budget : ℕ) (left : List (List ℕ)) (ws : List B) → HearsFirst tsi budget left (λ es. Heard number record_of told faults refuses es ws ws)
-no_datagram_heard number record_of told faults refuses tsi budget left ws =
-    record { taken = 0; hears = none_heard number record_of told faults refuses tsi budget left ws }
+pub no_datagram_heard : {B : Type 0} (hearing : B → Hearing) (tsi budget : ℕ) (left : List (List ℕ)) (ws : List B) → HearsFirst (λ n. events_of tsi budget (take n left)) (λ es. Heard hearing es ws ws)
+no_datagram_heard hearing tsi budget left ws =
+    record { taken = 0; hears = none_heard hearing tsi budget left ws }
 
 -- a part of one datagram's events behind those of the datagrams before it is a part of all
-pub part_heard : {B : Type 0} (number : B → ℕ) (record_of : B → List Event) (told : B → Type 0) (faults : B → ℕ) (refuses : B → Event → ℕ → Type 0)
-    (xs ys rest all : List Event) (us vs ws : List B) → all ≡ xs ++ ys ++ rest → Heard number record_of told faults refuses xs us vs
-    → HearsPart ys (λ es. Heard number record_of told faults refuses es vs ws) → HearsPart all (λ es. Heard number record_of told faults refuses es us ws)
-part_heard number record_of told faults refuses xs ys rest all us vs ws is first part = record {
+pub part_heard : {B : Type 0} (hearing : B → Hearing) (xs ys rest all : List Event) (us vs ws : List B) → all ≡ xs ++ ys ++ rest → Heard hearing xs us vs
+    → HearsPart ys (λ es. Heard hearing es vs ws) → HearsPart all (λ es. Heard hearing es us ws)
+part_heard hearing xs ys rest all us vs ws is first part = record {
   front = xs ++ part.front;
   rest = part.rest ++ rest;
   is = is ∙ ap (λ es. xs ++ es ++ rest) part.is ∙ ap (λ es. es ++ rest) (sym (append_assoc xs part.front part.rest))
       ∙ append_assoc (xs ++ part.front) part.rest rest;
-  hears = heard_more number record_of told faults refuses xs part.front us vs ws first part.hears;
+  hears = heard_more hearing xs part.front us vs ws first part.hears;
 }
 
 -- ---- by the answer of a call
@@ -107,47 +97,23 @@ pub whole_is_part : (events : List Event) (Hears : List Event → Type 0) → He
 whole_is_part events Hears heard = record { front = events; rest = []; is = sym (append-nil events); hears = heard }
 
 -- what is done behind the datagrams tells nothing
-pub told_before : (answer : Result ℕ Fault) (t s : Type 0) (tsi budget : ℕ) (bound : Bound) (left : List (List ℕ)) (Hears : List Event → Type 0)
-    → Blames answer ⊥ t s → Hears (events_of tsi budget (take (limit bound) left)) → TellsEvents answer tsi budget bound left Hears
-told_before (Ok v) t s tsi budget bound left Hears blames heard = heard
-told_before (Err Datagrams) t s tsi budget bound left Hears blames heard = absurd blames
-told_before (Err Text) t s tsi budget bound left Hears blames heard = heard
-told_before (Err Shelf) t s tsi budget bound left Hears blames heard = heard
-told_before (Err Memory) t s tsi budget bound left Hears blames heard = whole_is_part (events_of tsi budget (take (limit bound) left)) Hears heard
+pub told_before : {A : Type 0} (answer : Result A Fault) (t s : Type 0) (events : List Event) (first : ℕ → List Event) (Hears : List Event → Type 0)
+    → Blames answer ⊥ t ⊥ s ⊥ → Hears events → Tells answer events first Hears
+told_before (Ok v) t s events first Hears blames heard = heard
+told_before (Err Datagrams) t s events first Hears blames heard = absurd blames
+told_before (Err Text) t s events first Hears blames heard = heard
+told_before (Err Emit) t s events first Hears blames heard = heard
+told_before (Err Shelf) t s events first Hears blames heard = heard
+told_before (Err Files) t s events first Hears blames heard = heard
+told_before (Err Memory) t s events first Hears blames heard = whole_is_part events Hears heard
 
 -- memory is the one fault
-pub told_at_memory : {A : Type 0} (answer : Result A Fault) (tsi budget : ℕ) (bound : Bound) (left : List (List ℕ)) (Hears : List Event → Type 0)
-    → IsErrAnd answer (λ e. e ≡ Memory) → HearsPart (events_of tsi budget (take (limit bound) left)) Hears → TellsEvents answer tsi budget bound left Hears
-told_at_memory (Ok a) tsi budget bound left Hears is part = absurd is
-told_at_memory (Err Datagrams) tsi budget bound left Hears is part = cc
-told_at_memory (Err Text) tsi budget bound left Hears is part = cc
-told_at_memory (Err Shelf) tsi budget bound left Hears is part = cc
-told_at_memory (Err Memory) tsi budget bound left Hears is part = part
-
--- by the status of a run
-pub all_told : (answer : Result ℕ Fault) (result : ℕ) (tsi budget : ℕ) (bound : Bound) (left : List (List ℕ)) (Hears : List Event → Type 0)
-    → Ends answer result → TellsEvents answer tsi budget bound left Hears → result ≢ 4 → result ≢ 9 → Hears (events_of tsi budget (take (limit bound) left))
-all_told (Ok v) result tsi budget bound left Hears ends tells no_4 no_9 = tells
-all_told (Err Datagrams) result tsi budget bound left Hears ends tells no_4 no_9 = absurd (no_4 ends.is)
-all_told (Err Text) result tsi budget bound left Hears ends tells no_4 no_9 = tells
-all_told (Err Shelf) result tsi budget bound left Hears ends tells no_4 no_9 = tells
-all_told (Err Memory) result tsi budget bound left Hears ends tells no_4 no_9 = absurd (no_9 ends.is)
-
-other : (result n m : ℕ) → result ≡ n → result ≡ m → n ≢ m → ⊥
-other result n m is is' differ = differ (sym is ∙ is')
-
-pub told_at_9 : (answer : Result ℕ Fault) (result : ℕ) (tsi budget : ℕ) (bound : Bound) (left : List (List ℕ)) (Hears : List Event → Type 0)
-    → Ends answer result → TellsEvents answer tsi budget bound left Hears → result ≡ 9 → HearsPart (events_of tsi budget (take (limit bound) left)) Hears
-told_at_9 (Ok v) result tsi budget bound left Hears ends tells nine = whole_is_part (events_of tsi budget (take (limit bound) left)) Hears tells
-told_at_9 (Err Datagrams) result tsi budget bound left Hears ends tells nine = absurd (other result 4 9 ends.is nine (λ e. omega (arith, e)))
-told_at_9 (Err Text) result tsi budget bound left Hears ends tells nine = whole_is_part (events_of tsi budget (take (limit bound) left)) Hears tells
-told_at_9 (Err Shelf) result tsi budget bound left Hears ends tells nine = whole_is_part (events_of tsi budget (take (limit bound) left)) Hears tells
-told_at_9 (Err Memory) result tsi budget bound left Hears ends tells nine = tells
-
-pub told_at_4 : (answer : Result ℕ Fault) (result : ℕ) (tsi budget : ℕ) (bound : Bound) (left : List (List ℕ)) (Hears : List Event → Type 0)
-    → Ends answer result → TellsEvents answer tsi budget bound left Hears → result ≡ 4 → HearsFirst tsi budget left Hears
-told_at_4 (Ok v) result tsi budget bound left Hears ends tells four = record { taken = limit bound; hears = tells }
-told_at_4 (Err Datagrams) result tsi budget bound left Hears ends tells four = tells
-told_at_4 (Err Text) result tsi budget bound left Hears ends tells four = record { taken = limit bound; hears = tells }
-told_at_4 (Err Shelf) result tsi budget bound left Hears ends tells four = record { taken = limit bound; hears = tells }
-told_at_4 (Err Memory) result tsi budget bound left Hears ends tells four = absurd (other result 9 4 ends.is four (λ e. omega (arith, e)))
+pub told_at_memory : {A : Type 0} (answer : Result A Fault) (events : List Event) (first : ℕ → List Event) (Hears : List Event → Type 0)
+    → IsErrAnd answer (λ e. e ≡ Memory) → HearsPart events Hears → Tells answer events first Hears
+told_at_memory (Ok a) events first Hears is part = absurd is
+told_at_memory (Err Datagrams) events first Hears is part = cc
+told_at_memory (Err Text) events first Hears is part = cc
+told_at_memory (Err Emit) events first Hears is part = cc
+told_at_memory (Err Shelf) events first Hears is part = cc
+told_at_memory (Err Files) events first Hears is part = cc
+told_at_memory (Err Memory) events first Hears is part = part

@@ -1,5 +1,5 @@
 -- What the watchers of a run are told of a list of datagrams, and the instances that are installed while it is taken.
-use Rattle.std.specs.Prelude.{◌≡◌, ℕ, ◌==◌, ◌&&◌, Bool, if◌then◌else◌, List, [], ◌∷◌, ◌++◌, take, Option, Some, None, option_map}
+use Rattle.std.specs.Prelude.{ℕ, ◌==◌, ◌&&◌, Bool, if◌then◌else◌, List, [], ◌∷◌, ◌++◌, Option, Some, None, option_map}
 use Rattle.std.specs.Cmp.Lexicographic.{pointwise}
 use Rattle.std.specs.List.{cons_option, filter_map}
 use Rattle.std.specs.Option.{option_eq}
@@ -100,31 +100,9 @@ abbrev pub published : Settings → List (List ℕ) → List Shown
 published c left = published_of c.tsi c.budget (datagrams_taken c left)
 
 abbrev pub installed_number : Event → Option ℕ
-installed_number (Refused code detail) = None
-installed_number (Elsewhere tsi) = None
-installed_number (Control close) = None
-installed_number (New toi sbn esi block object) = None
-installed_number (Repeat toi sbn esi) = None
-installed_number (Spare toi sbn esi) = None
-installed_number (OtiDiffers toi) = None
-installed_number (SymbolDiffers toi sbn esi at) = None
-installed_number (OverBudget toi sbn esi count charge) = None
 installed_number (Installed number) = Some number
+installed_number event = None
 
 -- the numbers of the instances that events tell of, in order
 abbrev pub installed_numbers : List Event → List ℕ
 installed_numbers events = filter_map installed_number events
-
--- ---- the events that were told where a run stopped in the middle
-
--- the first of the events were heard
-pub record HearsPart (events : List Event) (Hears : List Event → Type 0) : Type 0 where
-  pub front : List Event
-  pub rest : List Event
-  pub is : events ≡ front ++ rest
-  pub hears : Hears front
-
--- the events of the first of these datagrams were heard
-pub record HearsFirst (tsi budget : ℕ) (datagrams : List (List ℕ)) (Hears : List Event → Type 0) : Type 0 where
-  pub taken : ℕ
-  pub hears : Hears (events_of tsi budget (take taken datagrams))

@@ -2,5 +2,4 @@ pub mod Events
 pub mod HasTaken
 pub mod Outcome
 pub mod Showings
-pub mod Tellings
 pub mod Texts

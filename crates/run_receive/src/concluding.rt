@@ -2,18 +2,19 @@
 ghost use Rattle.std.specs.Prelude.{◌≡◌, ◌≤◌, true, [], IfOk, OnOk, option_map};
 ghost use Rattle.edge_io.specs.Faults.{Rose};
 ghost use Rattle.run_receive.specs.Texts.{best_lines};
-ghost use Rattle.run_receive.specs.Outcome.{base_status, end_status, calls_of, outcome_of};
-ghost use Rattle.run_base.specs.Endings.{is_apart};
-ghost use Rattle.run_base.specs.Answers.{Blames, LeavesText, LeavesShelf, status_of_answer};
+ghost use Rattle.run_receive.specs.Outcome.{base_status, end_status, calls_of, report_of};
+ghost use Rattle.run_base.specs.Answers.{Blames, LeavesText, LeavesShelf};
+ghost use Rattle.run_base.specs.Outcome.{Once};
+ghost use Rattle.run_base.specs.Statuses.{leaves_shelf};
 
 use crate::report::{best_lines, report_of};
 use crate::shelve::install;
 use carousel_cid::Instance;
 use edge_io::{Shelf, Text, Trouble};
-use run_base::{Ending, Fault, tell};
+use run_base::{Ending, Fault, Status, tell};
 use std::alloc::Global;
 
-/// Installs the instance where the list was read to its end, writes the report, and answers the status. All memory is
+/// Installs the instance where the list was read to its end, writes the report, and answers how the run ended. All memory is
 /// taken before the shelf is touched, but for what shelf and text take themselves.
 pub fn conclude<S: Shelf, T: Text>(
     alloc: Global,
@@ -22,14 +23,14 @@ pub fn conclude<S: Shelf, T: Text>(
     installed: Option<&Instance>,
     shelf: &mut S,
     text: &mut T,
-) -> Result<u8, Fault>
+) -> Result<Status, Fault>
     ensures status { IfOk result (λ s. s ≡ base_status ending drops (option_map (λ i. i.now) installed.entry)) }
     ensures text { T.told text.old →
-        LeavesText result (outcome_of ending drops (option_map (λ i. i.now) installed.entry)).report (T.written text.old) (T.written text.new) }
+        LeavesText Once result (report_of ending drops (option_map (λ i. i.now) installed.entry)) (T.written text.old) (T.written text.new) }
     ensures shelf { S.told shelf.old → LeavesShelf result (calls_of ending (option_map (λ i. i.now) installed.entry)) (S.holds shelf.old) (S.holds shelf.new) }
-    ensures apart { is_apart (status_of_answer result) ≡ true → shelf.new ≡ shelf.old }
+    ensures apart { leaves_shelf result ≡ true → shelf.new ≡ shelf.old }
     ensures told { T.told text.old → T.told text.new }
-    ensures blames { Blames result ⊥ (Rose (T.faults text.old) (T.faults text.new)) (Rose (S.faults shelf.old) (S.faults shelf.new)) }
+    ensures blames { Blames result ⊥ (Rose (T.faults text.old) (T.faults text.new)) ⊥ (Rose (S.faults shelf.old) (S.faults shelf.new)) ⊥ }
     ensures grows { T.faults text.old ≤ T.faults text.new }
 {
     let best = best_lines(alloc, installed)?;
@@ -49,7 +50,7 @@ fn shelve<S: Shelf>(
     requires { best.now ≡ best_lines (option_map (λ i. i.now) installed) }
     ensures shelf { S.told shelf.old → LeavesShelf result (calls_of ending (option_map (λ i. i.now) installed.entry)) (S.holds shelf.old) (S.holds shelf.new) }
     ensures apart { calls_of ending (option_map (λ i. i.now) installed.entry) ≡ [] → OnOk result (shelf.new ≡ shelf.old) }
-    ensures blames { Blames result ⊥ ⊥ (Rose (S.faults shelf.old) (S.faults shelf.new)) }
+    ensures blames { Blames result ⊥ ⊥ ⊥ (Rose (S.faults shelf.old) (S.faults shelf.new)) ⊥ }
 {
     let (Ending::End, Some(instance)) = (ending, installed) else {
         return Ok(());
@@ -61,26 +62,26 @@ fn shelve<S: Shelf>(
     }
 }
 
-/// The status of a run that came to its end.
-fn base_status(ending: Ending, drops: u64, installed: Option<&Instance>) -> u8
+/// How a run ends whose datagrams were taken.
+fn base_status(ending: Ending, drops: u64, installed: Option<&Instance>) -> Status
     ensures { result ≡ base_status ending drops (option_map (λ i. i.now) installed.entry) }
 {
     match ending {
         Ending::End => end_status(drops, installed),
-        Ending::Torn(_) => 3,
-        Ending::TooMany => 11,
+        Ending::Torn(_) => Status::Torn,
+        Ending::TooMany => Status::TooMany,
     }
 }
 
-/// The status of a list that was read to its end.
-fn end_status(drops: u64, installed: Option<&Instance>) -> u8
+/// How a run ends whose list was read to its end.
+fn end_status(drops: u64, installed: Option<&Instance>) -> Status
     ensures { result ≡ end_status drops (option_map (λ i. i.now) installed.entry) }
 {
     if drops != 0 {
-        return 7;
+        return Status::OverBudget;
     }
     match installed {
-        Some(_) => 0,
-        None => 2,
+        Some(_) => Status::Done,
+        None => Status::NothingInstalled,
     }
 }

@@ -3,7 +3,7 @@ ghost use Rattle.std.specs.Prelude.{◌≡◌, ◌≤◌, ◌++◌, ◌∷◌, [
 ghost use Rattle.edge_io.specs.Faults.{Rose};
 ghost use Rattle.edge_io.specs.ShelfCalls.{after, Begin, Finish};
 ghost use Rattle.run_receive.specs.Outcome.{put_of};
-ghost use Rattle.run_base.specs.Endings.{AcceptsFewer};
+ghost use Rattle.run_base.specs.Parts.{AcceptsFewer};
 
 use carousel_cid::FileOf;
 use edge_io::{Shelf, Trouble};

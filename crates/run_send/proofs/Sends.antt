@@ -1,6 +1,6 @@
 -- The stages of a send, one after another.
-use Rattle.std.proofs.Common.{◌≡◌, ℕ, ◌+◌, ◌≤◌, List, [], ◌∷◌, ◌++◌, ◌∙◌, refl, sym, ap, subst, arith, length, take, append_assoc}
-use Rattle.std.specs.Prelude.{Result, Ok, Err}
+use Rattle.std.proofs.Common.{◌≡◌, ℕ, Some, inl, inr, ◌+◌, ◌≤◌, List, [], ◌∷◌, ◌++◌, ◌∙◌, refl, sym, ap, subst, arith, length, take, append_assoc}
+use Rattle.std.specs.Prelude.{◌⊎◌, Result, Ok, Err}
 use Rattle.std.proofs.lemmas.List.{append-nil}
 use Rattle.std.proofs.Math.Seq.{take-append_seam}
 use Rattle.edge_io.specs.Faults.{Rose}
@@ -10,8 +10,10 @@ use Rattle.sender_plan.specs.Plan.{planned, plan_faults}
 use Rattle.sender_plan.specs.Session.{Session, IsSession}
 use Rattle.sender_plan.specs.declared.params.Params.{Params}
 use Rattle.sender_schedule.specs.Schedule.{schedule}
-use Rattle.run_base.specs.Endings.{AddsPart}
-use Rattle.run_send.specs.Send.{Found, and_then, bytes_under, catalog_in, checked, unless_any, within, bodies_of, session_of, asked, sent, refusal_status}
+use Rattle.std.specs.Result.{result_ok}
+use Rattle.run_base.specs.Parts.{AddsPart}
+use Rattle.run_base.specs.declared.status.Status.TheVariants as statuses
+use Rattle.run_send.specs.Send.{Found, and_then, bytes_under, catalog_in, checked, unless_any, within, bodies_of, session_of, asked, sent, session_asked, refusal_status}
 use Rattle.run_send.specs.Inner.Stages.{Decides, Misses, Halts, Sends, HasSent, ComesTo, behind}
 use Rattle.run_send.specs.declared.sending.Sending.{Sending}
 use Rattle.run_send.specs.declared.sending.Refusal.{Refusal}
@@ -135,11 +137,11 @@ halts_at_none answer e f m is = halts_weaker answer ⊥ e ⊥ f ⊥ m (λ none. 
 pub halts_at_files : {A : Type 0} (answer : Result A Stop) (e f m : Type 0) → Halts answer ⊥ f m → Halts answer e f m
 halts_at_files answer e f m is = halts_weaker answer ⊥ e f f m m (λ none. absurd none) (λ x. x) (λ x. x) is
 
-pub missed_of : (refusal : Refusal) (missed : Type 0) → refusal_status refusal ≡ 10 → Misses refusal missed → missed
-missed_of (Line number cause) missed ten is = absurd (let both : 8 ≡ 10 = ten in cc)
-missed_of (Plan cause at) missed ten is = absurd (let both : 8 ≡ 10 = ten in cc)
-missed_of (Absent name) missed ten is = is
-missed_of (TooBig name) missed ten is = is
+pub missed_of : (refusal : Refusal) (missed : Type 0) → refusal_status refusal ≡ statuses.Missing → Misses refusal missed → missed
+missed_of (Line number cause) missed missing is = absurd cc
+missed_of (Plan cause at) missed missing is = absurd cc
+missed_of (Absent name) missed missing is = is
+missed_of (TooBig name) missed missing is = is
 
 -- ---- the datagrams, one after another
 
@@ -181,11 +183,16 @@ is_refused found s Files is = tt
 is_refused found s Memory is = tt
 
 pub is_sent : (found : Found) (s : Sending) (session : Session) → asked found s ≡ Ok session
-    → ((sent found s).status ≡ 0) × ((sent found s).line ≡ []) × (schedule session ≡ (sent found s).datagrams)
+    → ((sent found s).status ≡ statuses.Done) × ((sent found s).text ≡ []) × (schedule session ≡ (sent found s).sent)
 unfolding sent
 is_sent found s session is = rw is (refl, refl, refl)
 
 -- what is asked is sound where what was made of it is
-pub is_sound : (found : Found) (s : Sending) (made : Session) → asked found s ≡ Ok made → IsSession made
-    → (session : Session) → asked found s ≡ Ok session → IsSession session
-is_sound found s made is sound session same = subst IsSession (let both = sym is ∙ same in let e : made ≡ session = cc in e) sound
+pub sound_of : (found : Found) (s : Sending) (made : Session) (P : Type 0) → asked found s ≡ Ok made → IsSession made
+    → (session : Session) → session_asked found s ≡ Some session → P ⊎ IsSession session
+unfolding session_asked
+sound_of found s made P is sound session same =
+    inr (subst IsSession (let both : Some made ≡ Some session = sym (ap result_ok is) ∙ same in let e : made ≡ session = cc in e) sound)
+
+pub nothing_sent_of : (found : Found) (s : Sending) (P : Type 0) → P → (session : Session) → session_asked found s ≡ Some session → P ⊎ IsSession session
+nothing_sent_of found s P nothing session same = inl nothing

@@ -1,7 +1,6 @@
 -- The ranges of what a send is told.
-use Rattle.std.specs.Prelude.{◌≤◌, Option, Some, None}
+use Rattle.std.specs.Prelude.{◌≤◌}
 use Rattle.sender_plan.specs.declared.params.Params.{Params}
-use Rattle.run_send.specs.declared.sending.Sending.{Sending}
 
 -- a plan can be made with these
 pub record AreParams (p : Params) : Type 0 where
@@ -9,7 +8,3 @@ pub record AreParams (p : Params) : Type 0 where
   pub symbol_to : p.symbol ≤ 65475
   pub block : 1 ≤ p.max_block
   pub cycles : 1 ≤ p.cycles
-
-abbrev pub IfSending : Option Sending → Type 0
-IfSending None = Unit {0}
-IfSending (Some s) = AreParams s.params

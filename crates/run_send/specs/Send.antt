@@ -1,5 +1,6 @@
 -- What a send comes to: all that it sends, or the line that says what refuses it first.
-use Rattle.std.specs.Prelude.{◌≡◌, ℕ, ◌+◌, nat_lt, if◌then◌else◌, List, [], ◌∷◌, ◌++◌, length, map, Option, Some, None, option_map, Result, Ok, Err, codes}
+use Rattle.std.specs.Prelude.{◌≡◌, ℕ, ◌+◌, nat_lt, true, false, if◌then◌else◌, List, [], ◌∷◌, ◌++◌, length, map, Option, Some, None, option_map, Result, Ok, Err, codes}
+use Rattle.std.specs.Result.{result_ok}
 use Rattle.wire_bytes.specs.FirstFault.{first_fault, unless_fault}
 use Rattle.sender_plan.specs.CatalogInstance.{CatalogInstance}
 use Rattle.sender_plan.specs.Catalog.{reading}
@@ -12,7 +13,10 @@ use Rattle.sender_plan.specs.declared.fault.PlanFault.{PlanFault}
 use Rattle.sender_plan.specs.declared.fault.PlanFault.TheVariants.{NumberNotRising, TooManyFiles, TooLarge, Params, Memory}
 use Rattle.sender_plan.specs.declared.params.Params as params
 use Rattle.sender_schedule.specs.Schedule.{schedule}
+use Rattle.run_base.specs.Outcome.{Outcome, Uses, Once, text_outcome}
 use Rattle.run_base.specs.Texts.{labelled, line}
+use Rattle.run_base.specs.declared.status.Status.{Status}
+use Rattle.run_base.specs.declared.status.Status.TheVariants as statuses
 use Rattle.run_send.specs.declared.sending.Sending.{Sending}
 use Rattle.run_send.specs.declared.sending.Refusal.{Refusal}
 use Rattle.run_send.specs.declared.sending.Refusal.TheVariants.{Line, Plan, Absent, TooBig}
@@ -94,11 +98,11 @@ pub record IsPlannedOf (found : Found) (s : Sending) (session : Session) : Type 
   pub read : map found (names_of instances) ≡ map (λ body. Some body) bodies
   pub plan : IsPlanOf instances bodies s.params session
 
-abbrev pub refusal_status : Refusal → ℕ
-refusal_status (Line number cause) = 8
-refusal_status (Plan cause at) = 8
-refusal_status (Absent name) = 10
-refusal_status (TooBig name) = 10
+abbrev pub refusal_status : Refusal → Status
+refusal_status (Line number cause) = statuses.Refused
+refusal_status (Plan cause at) = statuses.Refused
+refusal_status (Absent name) = statuses.Missing
+refusal_status (TooBig name) = statuses.Missing
 
 abbrev pub refusal_text : Refusal → List ℕ
 refusal_text (Line number cause) = labelled (codes "catalog refused: line ") number ++ labelled (codes " cause ") cause
@@ -109,16 +113,31 @@ refusal_text (TooBig name) = codes "file too large: " ++ name
 abbrev pub refusal_line : Refusal → List ℕ
 refusal_line refusal = line (refusal_text refusal)
 
-pub record Sent : Type 0 where
-  pub status : ℕ
-  pub datagrams : List (List ℕ)
-  pub line : List ℕ
+abbrev pub send_statuses : List Status
+send_statuses = statuses.Done ∷ statuses.Refused ∷ statuses.Missing ∷ []
+
+-- a send reads the files, and sends to this place
+abbrev pub send_uses : Sending → Uses
+send_uses s = record {
+  datagrams = None;
+  emit = Some s.place;
+  files = true;
+  shelf = false;
+  watchers = false;
+  writes = Once;
+  statuses = send_statuses;
+}
 
 -- all datagrams of a session; or none of them, and a line
-abbrev pub sent_by : Result Session Refusal → Sent
-sent_by (Ok session) = record { status = 0; datagrams = schedule session; line = [] }
-sent_by (Err refusal) = record { status = refusal_status refusal; datagrams = []; line = refusal_line refusal }
+abbrev pub sent_by : Result Session Refusal → Outcome
+sent_by (Ok session) =
+    record { status = statuses.Done; text = []; sent = schedule session; calls = []; events = []; first_events = λ n. []; asked = 0 }
+sent_by (Err refusal) = text_outcome (refusal_status refusal) (refusal_line refusal) 0
 
 -- of a send with these files
-unfoldable pub sent : Found → Sending → Sent
+unfoldable pub sent : Found → Sending → Outcome
 sent found s = sent_by (asked found s)
+
+-- the session that is sent, where nothing refuses one
+unfoldable pub session_asked : Found → Sending → Option Session
+session_asked found s = result_ok (asked found s)

@@ -2,9 +2,12 @@
 ghost use Rattle.std.specs.Prelude.{◌≡◌, ◌++◌, ◌⊎◌, true, Some, Ok, IfOk, IfErr, OnOk, string_bytes};
 ghost use Rattle.edge_io.specs.Faults.{Rose};
 ghost use Rattle.sender_plan.specs.Session.{Session, IsSession};
-ghost use Rattle.run_base.specs.Endings.{is_refused, is_send_status, is_unsent, IsDecided, AddsPart};
+ghost use Rattle.run_base.specs.Answers.{Blames, LeavesNothing, LeavesSink, LeavesText};
+ghost use Rattle.run_base.specs.Outcome.{Once};
+ghost use Rattle.run_base.specs.Statuses.{is_one_of, leaves_sink};
 ghost use Rattle.run_base.specs.Texts.{labelled};
-ghost use Rattle.run_send.specs.Send.{asked, sent, refusal_line, refusal_status, refusal_text};
+ghost use Rattle.run_base.specs.declared.status.Status.TheVariants.{Done, Missing};
+ghost use Rattle.run_send.specs.Send.{asked, sent, session_asked, send_statuses, refusal_line, refusal_status, refusal_text};
 ghost use Rattle.run_send.specs.Ranges.{AreParams};
 ghost use Rattle.run_send.specs.Inner.Stages.{ComesTo, Halts, IsAloneAt, Sends};
 
@@ -12,11 +15,11 @@ use crate::load::load;
 use crate::sending::{Refusal, Sending, Stop};
 use crate::transmit::transmit;
 use edge_io::{Emit, Files, Text, Trouble};
-use run_base::{push_labelled, tell};
+use run_base::{Fault, Status, push_labelled, tell};
 use std::alloc::{AllocError, Global};
 
-/// Sends the session that is planned of the catalog and its files, or writes the line of what refuses it, and answers
-/// the status. Nothing is sent before everything that can refuse was looked at.
+/// Sends the session that is planned of the catalog and its files, or writes the line of what refuses it. Nothing is sent before
+/// everything that can refuse was looked at.
 #[tactic(auto, using(crate::proofs::Sends::missed_of, run_base::proofs::Public::nothing_added, crate::proofs::Sends::part_of_all))]
 pub fn send<E: Emit, F: Files, T: Text>(
     alloc: Global,
@@ -24,42 +27,31 @@ pub fn send<E: Emit, F: Files, T: Text>(
     files: &mut F,
     emit: &mut E,
     text: &mut T,
-) -> u8
+) -> Result<Status, Fault>
     requires { AreParams sending.now.params }
-    ensures table { is_send_status result ≡ true }
-    ensures status { F.told files.old → IsDecided result → result ≡ (sent (F.found files.old) sending.now).status }
-    ensures sound { F.told files.old → result ≡ 0 → (s : Session) → asked (F.found files.old) sending.now ≡ Ok s → IsSession s }
-    ensures sent { F.told files.old → E.told emit.old → IsDecided result
-        → E.sent emit.new ≡ E.sent emit.old ++ (sent (F.found files.old) sending.now).datagrams }
-    ensures part { F.told files.old → E.told emit.old → (result ≡ 5) ⊎ (result ≡ 9)
-        → AddsPart (sent (F.found files.old) sending.now).datagrams (E.sent emit.old) (E.sent emit.new) }
-    ensures text { F.told files.old → T.told text.old → IsDecided result
-        → T.written text.new ≡ T.written text.old ++ (sent (F.found files.old) sending.now).line }
-    ensures text_part { F.told files.old → T.told text.old → (result ≡ 5) ⊎ (result ≡ 9)
-        → AddsPart (sent (F.found files.old) sending.now).line (T.written text.old) (T.written text.new) }
-    ensures text_at_12 { T.told text.old → result ≡ 12 → T.written text.new ≡ T.written text.old }
-    ensures alone { is_unsent result ≡ true → emit.new ≡ emit.old }
-    ensures place { result ≡ 0 → E.connected emit.new ≡ Some sending.now.place }
-    ensures files_failed { result ≡ 12 → Rose (F.faults files.old) (F.faults files.new) }
-    ensures missed { result ≡ 10 → Rose (F.misses files.old) (F.misses files.new) }
-    ensures failed { result ≡ 5 → Rose (E.faults emit.old) (E.faults emit.new) ⊎ Rose (T.faults text.old) (T.faults text.new) }
-    ensures complete { F.told files.old
-        → (Rose (F.faults files.old) (F.faults files.new) → ⊥)
-        → (Rose (E.faults emit.old) (E.faults emit.new) → ⊥)
-        → (Rose (T.faults text.old) (T.faults text.new) → ⊥)
-        → (result ≡ (sent (F.found files.old) sending.now).status) ⊎ (result ≡ 9) }
+    ensures table { IfOk result (λ s. is_one_of send_statuses s ≡ true) }
+    ensures status { F.told files.old → IfOk result (λ s. s ≡ (sent (F.found files.old) sending.now).status) }
+    ensures text { F.told files.old → T.told text.old → LeavesText Once result (sent (F.found files.old) sending.now).text (T.written text.old) (T.written text.new) }
+    ensures unwritten { T.told text.old → LeavesNothing Once result (T.written text.old) (T.written text.new) }
+    ensures sent { F.told files.old → E.told emit.old → LeavesSink Once result (sent (F.found files.old) sending.now).sent (E.sent emit.old) (E.sent emit.new) }
+    // Whatever was sent, it is of a sound session.
+    ensures sound { F.told files.old → (s : Session) → session_asked (F.found files.old) sending.now ≡ Some s → (E.sent emit.new ≡ E.sent emit.old) ⊎ IsSession s }
+    ensures alone { leaves_sink result ≡ true → emit.new ≡ emit.old }
+    ensures place { IfOk result (λ s. s ≡ Done → E.connected emit.new ≡ Some sending.now.place) }
+    ensures missed { IfOk result (λ s. s ≡ Missing → Rose (F.misses files.old) (F.misses files.new)) }
+    ensures blames { Blames result ⊥ (Rose (T.faults text.old) (T.faults text.new)) (Rose (E.faults emit.old) (E.faults emit.new)) ⊥ (Rose (F.faults files.old) (F.faults files.new)) }
 {
     match send_files(alloc, sending, files, emit) {
-        Ok(()) => 0,
+        Ok(()) => Ok(Status::Done),
         Err(Stop::Refused(refusal)) => refuse(alloc, &refusal, text),
-        Err(Stop::Emit) => 5,
-        Err(Stop::Files) => 12,
-        Err(Stop::Memory) => 9,
+        Err(Stop::Emit) => Err(Fault::Emit),
+        Err(Stop::Files) => Err(Fault::Files),
+        Err(Stop::Memory) => Err(Fault::Memory),
     }
 }
 
 /// Sends the session.
-#[tactic(auto, using(crate::proofs::Sends::is_refused, crate::proofs::Sends::is_sent, crate::proofs::Sends::is_sound, crate::proofs::Sends::halts_at_files, run_base::proofs::Public::nothing_added))]
+#[tactic(auto, using(crate::proofs::Sends::is_refused, crate::proofs::Sends::is_sent, crate::proofs::Sends::sound_of, crate::proofs::Sends::nothing_sent_of, crate::proofs::Sends::halts_at_files, run_base::proofs::Public::nothing_added))]
 fn send_files<E: Emit, F: Files>(
     alloc: Global,
     sending: &Sending,
@@ -68,9 +60,9 @@ fn send_files<E: Emit, F: Files>(
 ) -> Result<(), Stop>
     requires { AreParams sending.now.params }
     ensures comes { F.told files.old → ComesTo (sent (F.found files.old) sending.now) result }
-    ensures sound { OnOk result (F.told files.old → (s : Session) → asked (F.found files.old) sending.now ≡ Ok s → IsSession s) }
+    ensures sound { F.told files.old → (s : Session) → session_asked (F.found files.old) sending.now ≡ Some s → (E.sent emit.new ≡ E.sent emit.old) ⊎ IsSession s }
     ensures sends { F.told files.old → E.told emit.old
-        → Sends result (sent (F.found files.old) sending.now).datagrams (E.sent emit.old) (E.sent emit.new) }
+        → Sends result (sent (F.found files.old) sending.now).sent (E.sent emit.old) (E.sent emit.new) }
     ensures alone { IfErr result (λ stop. IsAloneAt stop (emit.new ≡ emit.old)) }
     ensures place { OnOk result (E.connected emit.new ≡ Some sending.now.place) }
     ensures halts { Halts result
@@ -87,22 +79,14 @@ fn send_files<E: Emit, F: Files>(
     }
 }
 
-/// Writes the line of a refusal, and answers the status.
-fn refuse<T: Text>(alloc: Global, refusal: &Refusal, text: &mut T) -> u8
-    ensures table { is_refused result ≡ true }
-    ensures status { IsDecided result → result ≡ refusal_status refusal.now }
-    ensures text { T.told text.old → IsDecided result → T.written text.new ≡ T.written text.old ++ refusal_line refusal.now }
-    ensures unwritten { T.told text.old → (result ≡ 5) ⊎ (result ≡ 9) → T.written text.new ≡ T.written text.old }
-    ensures failed { result ≡ 5 → Rose (T.faults text.old) (T.faults text.new) }
-    ensures complete { (Rose (T.faults text.old) (T.faults text.new) → ⊥) → (result ≡ refusal_status refusal.now) ⊎ (result ≡ 9) }
+/// Writes the line of a refusal, and answers how the send ends.
+fn refuse<T: Text>(alloc: Global, refusal: &Refusal, text: &mut T) -> Result<Status, Fault>
+    ensures status { IfOk result (λ s. s ≡ refusal_status refusal.now) }
+    ensures text { T.told text.old → LeavesText Once result (refusal_line refusal.now) (T.written text.old) (T.written text.new) }
+    ensures blames { Blames result ⊥ (Rose (T.faults text.old) (T.faults text.new)) ⊥ ⊥ ⊥ }
 {
-    let Ok(line) = refusal_line(alloc, refusal) else {
-        return 9;
-    };
-    match tell(text, line.as_str(), refusal.status()) {
-        Ok(status) => status,
-        Err(fault) => fault.status(),
-    }
+    let line = refusal_line(alloc, refusal)?;
+    tell(text, line.as_str(), refusal.status())
 }
 
 /// The line that says why nothing is sent.

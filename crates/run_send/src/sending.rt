@@ -4,6 +4,7 @@ ghost use Rattle.run_send.specs.Send.{refusal_status};
 
 use edge_io::Place;
 use meta_text::Label;
+use run_base::Status;
 use sender_plan::Params;
 use std::alloc::AllocError;
 
@@ -34,13 +35,13 @@ pub enum Refusal {
 }
 
 impl Refusal {
-    /// The status that the run answers.
-    pub fn status(&self) -> u8
+    /// How the run ends.
+    pub fn status(&self) -> Status
         ensures { result ≡ refusal_status self.now }
     {
         match self {
-            Refusal::Line { .. } | Refusal::Plan { .. } => 8,
-            Refusal::Absent(_) | Refusal::TooBig(_) => 10,
+            Refusal::Line { .. } | Refusal::Plan { .. } => Status::Refused,
+            Refusal::Absent(_) | Refusal::TooBig(_) => Status::Missing,
         }
     }
 }

@@ -1,6 +1,6 @@
 -- The numbers of a command are in the ranges of its options.
 use Rattle.std.proofs.Common.{◌≡◌, ℕ, ◌≤◌, Bool, true, false, ◌&&◌, List, [], ◌∷◌, refl, subst, arith, Option, Some, None}
-use Rattle.std.specs.Prelude.{if◌then◌else◌, option_and_then, option_map}
+use Rattle.std.specs.Prelude.{if◌then◌else◌, option_and_then, option_map, unwrap_or}
 use Rattle.std.specs.Option.{ForSome}
 use Rattle.std.specs.Str.Parse.{digits_value}
 use Rattle.std.proofs.lemmas.Bool.Decides.{nat_tests}
@@ -16,10 +16,10 @@ use Rattle.fcast_words.specs.declared.command.Command.TheVariants as commands
 use Rattle.fcast_words.specs.declared.command_word.CommandWord.{CommandWord}
 use Rattle.fcast_words.specs.declared.command_word.CommandWord.TheVariants as word
 use Rattle.run_words.specs.Commands as specs
-use Rattle.run_words.specs.Commands.{task_of, receiving_in, send_in, receiving_of, send_of, sending_of}
-use Rattle.run_words.specs.Ranges.{AreReceiving, AreSending, HasNumbers, IsPort, IfListening}
-use Rattle.run_base.specs.Ranges.{IsCount, IfInRange}
-use Rattle.run_send.specs.Ranges.{IfSending}
+use Rattle.run_words.specs.Commands.{task_of, sending_of}
+use Rattle.run_words.specs.declared.task.Task.TheVariants as tasks
+use Rattle.run_words.specs.Ranges.{AreReceiving, AreSending, HasNumbers, IsFit, IsPort, IfListening}
+use Rattle.run_base.specs.Ranges.{IsCount}
 
 abbrev IfNumbers : Option Command → Type 0
 IfNumbers None = Unit {0}
@@ -161,29 +161,8 @@ has_numbers words c is = subst IfNumbers is (numbers words)
 
 -- ---- what is to be done
 
--- a send receives nothing
-none_received : (catalog : List ℕ) (symbol block maxn cycles tsi : ℕ) (place : Option Place)
-    → IfInRange (option_and_then receiving_in (option_map (sending_of catalog symbol block maxn cycles tsi) place))
-none_received catalog symbol block maxn cycles tsi None = tt
-none_received catalog symbol block maxn cycles tsi (Some place) = tt
-
-of_receiving : (o : Option Command) → IfNumbers o → IfInRange (option_and_then receiving_in (option_and_then task_of o))
-of_receiving None has = tt
-of_receiving (Some (commands.Replay tsi budget most)) has = record { tsi = has.0.tsi_to; least = has.0.least; most = has.0.most; limit = has.1 }
-of_receiving (Some (commands.Recv tsi budget addr port count)) has =
-    record { tsi = has.0.tsi_to; least = has.0.least; most = has.0.most; limit = has.2 }
-of_receiving (Some (commands.Send catalog addr port symbol block maxn cycles tsi)) has =
-    none_received catalog symbol block maxn cycles tsi (specs.place_of addr port)
-of_receiving (Some (commands.Dump most)) has = tt
-of_receiving (Some (commands.Drill start)) has = tt
-of_receiving (Some (commands.Listen tsi budget most addr port count readers)) has = tt
-
--- the settings of the receiving that words are
-pub receiving_in_range : (words : List (List ℕ)) → IfInRange (receiving_of words)
-receiving_in_range words = of_receiving (command_of words) (numbers words)
-
 of_place : (catalog : List ℕ) (symbol block maxn cycles tsi : ℕ) (place : Option Place) → AreSending symbol block maxn cycles tsi
-    → IfSending (option_and_then send_in (option_map (sending_of catalog symbol block maxn cycles tsi) place))
+    → IsFit (unwrap_or (option_map (sending_of catalog symbol block maxn cycles tsi) place) tasks.Usage)
 of_place catalog symbol block maxn cycles tsi None are = tt
 of_place catalog symbol block maxn cycles tsi (Some place) are = record {
   symbol_from = are.symbol_from;
@@ -192,19 +171,14 @@ of_place catalog symbol block maxn cycles tsi (Some place) are = record {
   cycles = are.cycles_from;
 }
 
-of_sending : (o : Option Command) → IfNumbers o → IfSending (option_and_then send_in (option_and_then task_of o))
-of_sending None has = tt
-of_sending (Some (commands.Replay tsi budget most)) has = tt
-of_sending (Some (commands.Recv tsi budget addr port count)) has = tt
-of_sending (Some (commands.Send catalog addr port symbol block maxn cycles tsi)) has =
+pub fit_of : (command : Command) → HasNumbers command → IsFit (task_of command)
+fit_of (commands.Replay tsi budget most) has = record { tsi = has.0.tsi_to; least = has.0.least; most = has.0.most; limit = has.1 }
+fit_of (commands.Recv tsi budget addr port count) has = record { tsi = has.0.tsi_to; least = has.0.least; most = has.0.most; limit = has.2 }
+fit_of (commands.Send catalog addr port symbol block maxn cycles tsi) has =
     of_place catalog symbol block maxn cycles tsi (specs.place_of addr port) has.0
-of_sending (Some (commands.Dump most)) has = tt
-of_sending (Some (commands.Drill start)) has = tt
-of_sending (Some (commands.Listen tsi budget most addr port count readers)) has = tt
-
--- a plan can be made with what a send is told
-pub sending_in_range : (words : List (List ℕ)) → IfSending (send_of words)
-sending_in_range words = of_sending (command_of words) (numbers words)
+fit_of (commands.Dump most) has = tt
+fit_of (commands.Drill start) has = tt
+fit_of (commands.Listen tsi budget most addr port count readers) has = tt
 
 -- ---- listen
 

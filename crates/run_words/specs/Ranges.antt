@@ -4,7 +4,10 @@ use Rattle.std.specs.Option.{ForSome}
 use Rattle.fcast_words.specs.declared.command.Command.{Command}
 use Rattle.fcast_words.specs.declared.command.Command.TheVariants.{Replay, Recv, Send, Dump, Drill, Listen}
 use Rattle.run_words.specs.declared.listening.Listening.{Listening}
+use Rattle.run_words.specs.declared.task.Task.{Task}
+use Rattle.run_words.specs.declared.task.Task.TheVariants as tasks
 use Rattle.run_base.specs.Ranges.{IsCount, IsInRange}
+use Rattle.run_send.specs.Ranges.{AreParams}
 
 -- so many readers may look on
 abbrev pub AreReaders : ℕ → Type 0
@@ -13,6 +16,12 @@ AreReaders readers = (1 ≤ readers) × (readers ≤ 16)
 abbrev pub IfListening : Option Listening → Type 0
 IfListening None = Unit {0}
 IfListening (Some l) = IsInRange l.settings × AreReaders l.readers
+
+-- a task's numbers are in their ranges
+abbrev pub IsFit : Task → Type 0
+IsFit (tasks.Receive settings) = IsInRange settings
+IsFit (tasks.Send sending) = AreParams sending.params
+IsFit task = Unit {0}
 
 -- ---- the numbers of a command as its words give them
 

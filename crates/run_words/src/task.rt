@@ -2,9 +2,12 @@
 
 use run_base::Settings;
 use run_send::Sending;
+
 /// What a run is to do.
 #[derive(Drop)]
 pub enum Task {
+    /// Tell the usage line: the words are no command of `run`.
+    Usage,
     /// Receive a session, from a packet log or over UDP.
     Receive(Settings),
     /// Print the datagrams of a log, but no more than this many.

@@ -1,4 +1,5 @@
 mod Siftings
 pub mod Hearings
 mod Steps
+mod Diaries
 pub mod Public

@@ -28,17 +28,16 @@ impl Counter {
 }
 
 impl Watch for Counter {
-    ghost use Rattle.watch_list.specs.declared.event.Event.{Event};
+    ghost use Rattle.watch_list.specs.Hearing.{Hearing, HasHeard};
+    ghost use Rattle.watch_list.specs.Refusing.{IsFullWith};
 
-    ghost told = { λ _. ⊥ };
-
-    ghost number = { λ s. s.count };
-
-    ghost record_of = { λ _. [] };
-
-    ghost faults = { λ s. s.failed };
-
-    ghost refuses = { λ s _ n. (s.count ≡ 2 ^ 64 - 1) × (n ≡ one_more s.failed) };
+    ghost hearing = { λ s. record {
+      number = s.count;
+      told = ⊥;
+      events = [];
+      faults = s.failed;
+      refuses = λ before event count. IsFullWith s.count before × (count ≡ one_more s.failed);
+    } };
 
     /// It is deaf exactly where its count is full, and never wants memory. A fault is counted
     /// where it is deaf, and nowhere else.

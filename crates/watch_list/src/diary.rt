@@ -1,6 +1,6 @@
 //! A watcher that keeps the events.
 
-ghost use Rattle.std.specs.Prelude.{◌≡◌, ◌≢◌, ◌+◌, ◌-◌, ◌^◌, ◌≤◌, [], ◌∷◌, ◌++◌, length, vec_len, OnOk, OnErr, IsErrOf, IsTrue, ◌↔◌};
+ghost use Rattle.std.specs.Prelude.{◌≡◌, ◌≢◌, ◌+◌, ◌-◌, ◌^◌, ◌≤◌, [], ◌∷◌, ◌++◌, length, vec_len, OnOk, OnErr, IsErrOf, IsTrue, ◌↔◌, ◌⊎◌, vec_capacity};
 ghost use Rattle.edge_io.specs.Faults.{Rose, one_more};
 ghost use Rattle.edge_io.specs.StatedCalls.{fails_next, IsNextCall};
 
@@ -34,26 +34,28 @@ impl Diary {
 }
 
 impl Watch for Diary {
-    ghost use Rattle.watch_list.specs.declared.event.Event.{Event};
+    ghost use Rattle.watch_list.specs.Hearing.{Hearing, HasHeard};
+    ghost use Rattle.watch_list.specs.Refusing.{fails_after};
 
-    ghost told = { λ _. Unit {0} };
-
-    ghost number = { λ s. vec_len s.events };
-
-    ghost record_of = { λ s. s.events.items };
-
-    ghost faults = { λ s. s.calls.failed };
-
-    ghost refuses = { λ s _ n. n ≡ one_more s.calls.failed };
+    ghost hearing = { λ s. record {
+      number = vec_len s.events;
+      told = Unit {0};
+      events = s.events.items;
+      faults = s.calls.failed;
+      refuses = λ before event count. (IsTrue (fails_after s.calls (length before)) ⊎ (vec_capacity s.events ≤ vec_len s.events + length before)) × (count ≡ one_more s.calls.failed);
+    } };
 
     /// It is deaf where its count is full and at the stated calls, and else hears the event or wants
-    /// memory. A fault is counted at each error, and nowhere else.
+    /// memory. It wants memory only where its list has no room. A fault is counted at each error, and
+    /// nowhere else.
     fn hear(&mut self, event: &Event) -> Result<(), Unheard>
         ensures record { OnOk result (self.new.events.items ≡ self.old.events.items ++ event.now ∷ []) }
         ensures number { OnOk result (vec_len self.new.events ≡ vec_len self.old.events + 1) }
         ensures same_record { OnErr result (self.new.events.items ≡ self.old.events.items) }
         ensures full { vec_len self.old.events ≡ 2 ^ 64 - 1 → IsErrOf result Unheard.Deaf }
         ensures exact { vec_len self.old.events ≢ 2 ^ 64 - 1 → IsErrOf result Unheard.Deaf ↔ IsTrue (fails_next self.old.calls) }
+        ensures refuses { OnErr result (IsTrue (fails_after self.old.calls 0) ⊎ (vec_capacity self.old.events ≤ vec_len self.old.events)) }
+        ensures capacity { vec_capacity self.old.events ≤ vec_capacity self.new.events }
         ensures next { IsNextCall self.old.calls self.new.calls }
         ensures fault { OnErr result (self.new.calls.failed ≡ one_more self.old.calls.failed) }
         ensures quiet { OnOk result (self.new.calls.failed ≡ self.old.calls.failed) }

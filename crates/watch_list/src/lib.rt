@@ -1,8 +1,7 @@
 //! What a run tells of each datagram, and those who listen.
 //!
 //! A `Watch` hears each event of a run. `Counter` counts them, `Lines` writes a line for each, `Bell`
-//! writes one where an instance is installed, and `Diary` keeps them. `tell_all` lets a list of
-//! watchers hear an event, and drops those that fail.
+//! writes one where an instance is installed, and `Diary` keeps them.
 #![tactic(auto)]
 
 mod bell;
@@ -11,7 +10,6 @@ mod diary;
 mod event;
 mod event_line;
 mod lines;
-mod telling;
 mod watch;
 mod write_event;
 
@@ -20,5 +18,4 @@ pub use counter::Counter;
 pub use diary::Diary;
 pub use event::Event;
 pub use lines::Lines;
-pub use telling::tell_all;
 pub use watch::{Unheard, Watch};

@@ -37,17 +37,15 @@ impl<T: Text + Drop> Lines<T> {
 }
 
 impl<T: Text + Drop> Watch for Lines<T> {
-    ghost use Rattle.watch_list.specs.declared.event.Event.{Event};
+    ghost use Rattle.watch_list.specs.Hearing.{Hearing, HasHeard};
 
-    ghost told = { λ _. ⊥ };
-
-    ghost number = { λ s. s.count };
-
-    ghost record_of = { λ _. [] };
-
-    ghost faults = { λ s. s.failed };
-
-    ghost refuses = { λ s _ n. n ≡ one_more s.failed };
+    ghost hearing = { λ s. record {
+      number = s.count;
+      told = ⊥;
+      events = [];
+      faults = s.failed;
+      refuses = λ before event count. count ≡ one_more s.failed;
+    } };
 
     /// It is deaf where its count is full, and then leaves its text alone, or where its text failed.
     /// It answers `Memory` where its text does. A fault is counted at each error, and nowhere else.

@@ -1,6 +1,6 @@
-//! Watchers, the lines that they write, and lists of them.
+//! Watchers, the lines that they write, and watchers in boxes.
 
+mod boxes;
 mod lines;
 mod same;
-mod telling;
 mod watchers;

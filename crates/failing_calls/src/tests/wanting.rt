@@ -2,7 +2,7 @@
 
 ghost use Rattle.std.specs.Prelude.{◌≡◌, [], None};
 ghost use Rattle.edge_io.specs.Faults.{one_more};
-ghost use Rattle.edge_io.specs.Shelved.{part_of};
+ghost use Rattle.edge_io.specs.Shelved.{bare};
 
 use edge_io::{
     Calls, Emit, FileFault, Files, Place, Shelf, SureEmit, SureFiles, SureShelf, SureText, Text,
@@ -42,7 +42,7 @@ pub struct WantingShelf {
 impl Shelf for WantingShelf {
     ghost told = { λ _. ⊥ };
 
-    ghost holds = { λ _. part_of 0 };
+    ghost holds = { λ _. bare };
 
     ghost faults = { λ _. 0 };
 

@@ -2,8 +2,10 @@
 use Rattle.std.specs.Prelude.{◌≡◌, ℕ, List, [], ◌++◌, Result, Ok, Err}
 use Rattle.sender_plan.specs.declared.fault.PlanFault.{PlanFault}
 use Rattle.sender_plan.specs.declared.fault.PlanFault.TheVariants as plans
-use Rattle.run_base.specs.Endings.{AddsPart}
-use Rattle.run_send.specs.Send.{Sent, refusal_of, refusal_status, refusal_line}
+use Rattle.run_base.specs.Outcome.{Outcome, text_outcome}
+use Rattle.run_base.specs.Parts.{AddsPart}
+use Rattle.run_base.specs.declared.status.Status.TheVariants.{Done}
+use Rattle.run_send.specs.Send.{refusal_of, refusal_status, refusal_line}
 use Rattle.run_send.specs.declared.sending.Refusal.{Refusal}
 use Rattle.run_send.specs.declared.sending.Refusal.TheVariants.{Line, Plan, Absent, TooBig}
 use Rattle.run_send.specs.declared.sending.Stop.{Stop}
@@ -54,12 +56,12 @@ IsAloneAt Files alone = alone
 IsAloneAt Memory alone = Unit {0}
 
 -- the answer of a send comes to this, but for a device that failed and want of memory
-abbrev pub ComesTo : {A : Type 0} → Sent → Result A Stop → Type 0
-ComesTo s (Ok a) = (s.status ≡ 0) × (s.line ≡ [])
-ComesTo s (Err (Refused refusal)) = s ≡ record { status = refusal_status refusal; datagrams = []; line = refusal_line refusal }
-ComesTo s (Err Emit) = Unit {0}
-ComesTo s (Err Files) = Unit {0}
-ComesTo s (Err Memory) = Unit {0}
+abbrev pub ComesTo : {A : Type 0} → Outcome → Result A Stop → Type 0
+ComesTo o (Ok a) = (o.status ≡ Done) × (o.text ≡ [])
+ComesTo o (Err (Refused refusal)) = o ≡ text_outcome (refusal_status refusal) (refusal_line refusal) 0
+ComesTo o (Err Emit) = Unit {0}
+ComesTo o (Err Files) = Unit {0}
+ComesTo o (Err Memory) = Unit {0}
 
 -- these bodies, and then those
 abbrev pub behind : List (List ℕ) → Result (List (List ℕ)) Refusal → Result (List (List ℕ)) Refusal

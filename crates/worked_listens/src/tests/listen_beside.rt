@@ -156,11 +156,11 @@ struct Announced {
 }
 
 impl Shelf for Announced {
-    ghost use Rattle.edge_io.specs.Shelved.{part_of};
+    ghost use Rattle.edge_io.specs.Shelved.{bare};
 
     ghost told = { λ _. ⊥ };
 
-    ghost holds = { λ _. part_of 0 };
+    ghost holds = { λ _. bare };
 
     ghost faults = { λ s. s.shelf.calls.failed };
 

@@ -1,7 +1,6 @@
-use Rattle.std.proofs.Common.{◌≡◌, arith, take}
+use Rattle.std.proofs.Common.{◌≡◌, arith}
 use Rattle.std.specs.Prelude.{vec_len}
-use Rattle.run_receive.specs.Events.{published, events_of}
-use Rattle.run_base.specs.Bounds.{limit}
+use Rattle.run_receive.specs.Events.{published}
 use Rattle.run_receive.proofs.Public.{no_event_heard, told_at_memory}
 use Rattle.run_readers.proofs.Public.{text_behind, nothing_behind, lines_of, ok_behind, shelf_behind, apart_behind, taking_behind, blames_behind, events_behind, nothing_at_memory, rose_before, rose_behind}
 use Rattle.fcast_run.proofs.beside.receive_beside.Goals as goal
@@ -17,8 +16,8 @@ finish-requires-clause-few g c = omega (
   c.requires.readers.1,
 )
 
-pub returns-clause-base : goal.returns-clause-base
-returns-clause-base g c = ok_behind c.receive-done.result c.finish.result _ _ c.finish.ensures.comes c.receive-done.ensures.base
+pub returns-clause-table : goal.returns-clause-table
+returns-clause-table g c = ok_behind c.receive-done.result c.finish.result _ _ c.finish.ensures.comes c.receive-done.ensures.table
 
 pub returns-clause-status : goal.returns-clause-status
 returns-clause-status g c = λ told.
@@ -68,14 +67,12 @@ pub returns-clause-blames : goal.returns-clause-blames
 returns-clause-blames g c =
     let before = c.receive-done.ensures.grows in
     let after = c.finish.ensures.grows in
-    blames_behind c.receive-done.result c.finish.result _ _ _ _ _ c.finish.ensures.comes
+    blames_behind c.receive-done.result c.finish.result _ _ _ _ _ _ _ c.finish.ensures.comes
     (rose_before _ _ _ before after) (rose_behind _ _ _ before) c.receive-done.ensures.blames
 
 pub returns-clause-events : goal.returns-clause-events
 returns-clause-events g c = λ told.
-    let settings = c.args.listening.now.settings in
-    events_behind c.receive-done.result c.finish.result _ settings.tsi settings.budget settings.bound (g.D.Datagrams.left c.args.datagrams.now) _
-    c.finish.ensures.comes (c.receive-done.ensures.events told)
+    events_behind c.receive-done.result c.finish.result _ _ _ _ c.finish.ensures.comes (c.receive-done.ensures.events told)
 
 pub returns-in_err-stop-clause-text : goal.returns-in_err-stop-clause-text
 returns-in_err-stop-clause-text g c = λ told written.
@@ -84,15 +81,7 @@ returns-in_err-stop-clause-text g c = λ told written.
 
 pub returns-in_err-stop-clause-events : goal.returns-in_err-stop-clause-events
 returns-in_err-stop-clause-events g c = λ told.
-    let settings = c.args.listening.now.settings in
-    let left = g.D.Datagrams.left c.args.datagrams.now in
-    told_at_memory c.from_residual.result settings.tsi settings.budget settings.bound left _ c.from_residual.ensures.1 (no_event_heard
-    (λ v. (goal.Watch-dyn g (v.vtable, v.value)).number v.value)
-    (λ v. (goal.Watch-dyn g (v.vtable, v.value)).record_of v.value)
-    (λ v. (goal.Watch-dyn g (v.vtable, v.value)).told v.value)
-    (λ v. (goal.Watch-dyn g (v.vtable, v.value)).faults v.value)
-    (λ v e n. (goal.Watch-dyn g (v.vtable, v.value)).refuses v.value e n)
-    (events_of settings.tsi settings.budget (take (limit settings.bound) left)) c.args.watchers.now.items)
+    told_at_memory c.from_residual.result _ _ _ c.from_residual.ensures.1 (no_event_heard (λ v. (goal.Watch-dyn g (v.vtable, v.value)).hearing v.value) _ c.args.watchers.now.items)
 
 pub returns-in_err-stopped-clause-text : goal.returns-in_err-stopped-clause-text
 returns-in_err-stopped-clause-text g c = λ told written.
@@ -101,15 +90,7 @@ returns-in_err-stopped-clause-text g c = λ told written.
 
 pub returns-in_err-stopped-clause-events : goal.returns-in_err-stopped-clause-events
 returns-in_err-stopped-clause-events g c = λ told.
-    let settings = c.args.listening.now.settings in
-    let left = g.D.Datagrams.left c.args.datagrams.now in
-    told_at_memory c.from_residual-in_err-stopped.result settings.tsi settings.budget settings.bound left _ c.from_residual-in_err-stopped.ensures.1 (no_event_heard
-    (λ v. (goal.Watch-dyn g (v.vtable, v.value)).number v.value)
-    (λ v. (goal.Watch-dyn g (v.vtable, v.value)).record_of v.value)
-    (λ v. (goal.Watch-dyn g (v.vtable, v.value)).told v.value)
-    (λ v. (goal.Watch-dyn g (v.vtable, v.value)).faults v.value)
-    (λ v e n. (goal.Watch-dyn g (v.vtable, v.value)).refuses v.value e n)
-    (events_of settings.tsi settings.budget (take (limit settings.bound) left)) c.args.watchers.now.items)
+    told_at_memory c.from_residual-in_err-stopped.result _ _ _ c.from_residual-in_err-stopped.ensures.1 (no_event_heard (λ v. (goal.Watch-dyn g (v.vtable, v.value)).hearing v.value) _ c.args.watchers.now.items)
 
 pub returns-in_err-seats-clause-text : goal.returns-in_err-seats-clause-text
 returns-in_err-seats-clause-text g c = λ told written.
@@ -118,15 +99,7 @@ returns-in_err-seats-clause-text g c = λ told written.
 
 pub returns-in_err-seats-clause-events : goal.returns-in_err-seats-clause-events
 returns-in_err-seats-clause-events g c = λ told.
-    let settings = c.args.listening.now.settings in
-    let left = g.D.Datagrams.left c.args.datagrams.now in
-    told_at_memory c.from_residual-in_err-seats.result settings.tsi settings.budget settings.bound left _ c.from_residual-in_err-seats.ensures.1 (no_event_heard
-    (λ v. (goal.Watch-dyn g (v.vtable, v.value)).number v.value)
-    (λ v. (goal.Watch-dyn g (v.vtable, v.value)).record_of v.value)
-    (λ v. (goal.Watch-dyn g (v.vtable, v.value)).told v.value)
-    (λ v. (goal.Watch-dyn g (v.vtable, v.value)).faults v.value)
-    (λ v e n. (goal.Watch-dyn g (v.vtable, v.value)).refuses v.value e n)
-    (events_of settings.tsi settings.budget (take (limit settings.bound) left)) c.args.watchers.now.items)
+    told_at_memory c.from_residual-in_err-seats.result _ _ _ c.from_residual-in_err-seats.ensures.1 (no_event_heard (λ v. (goal.Watch-dyn g (v.vtable, v.value)).hearing v.value) _ c.args.watchers.now.items)
 
 pub returns-in_err-publisher-clause-text : goal.returns-in_err-publisher-clause-text
 returns-in_err-publisher-clause-text g c = λ told written.
@@ -135,12 +108,4 @@ returns-in_err-publisher-clause-text g c = λ told written.
 
 pub returns-in_err-publisher-clause-events : goal.returns-in_err-publisher-clause-events
 returns-in_err-publisher-clause-events g c = λ told.
-    let settings = c.args.listening.now.settings in
-    let left = g.D.Datagrams.left c.args.datagrams.now in
-    told_at_memory c.from_residual-in_err-publisher.result settings.tsi settings.budget settings.bound left _ c.from_residual-in_err-publisher.ensures.1 (no_event_heard
-    (λ v. (goal.Watch-dyn g (v.vtable, v.value)).number v.value)
-    (λ v. (goal.Watch-dyn g (v.vtable, v.value)).record_of v.value)
-    (λ v. (goal.Watch-dyn g (v.vtable, v.value)).told v.value)
-    (λ v. (goal.Watch-dyn g (v.vtable, v.value)).faults v.value)
-    (λ v e n. (goal.Watch-dyn g (v.vtable, v.value)).refuses v.value e n)
-    (events_of settings.tsi settings.budget (take (limit settings.bound) left)) c.args.watchers.now.items)
+    told_at_memory c.from_residual-in_err-publisher.result _ _ _ c.from_residual-in_err-publisher.ensures.1 (no_event_heard (λ v. (goal.Watch-dyn g (v.vtable, v.value)).hearing v.value) _ c.args.watchers.now.items)

@@ -6,10 +6,6 @@ use Rattle.fcast_run.proofs.events.tell_taken.Goals as goal
 
 pub returns : goal.returns
 returns g c = heard_as
-    (λ v. (goal.Watch-dyn g (v.vtable, v.value)).number v.value)
-    (λ v. (goal.Watch-dyn g (v.vtable, v.value)).record_of v.value)
-    (λ v. (goal.Watch-dyn g (v.vtable, v.value)).told v.value)
-    (λ v. (goal.Watch-dyn g (v.vtable, v.value)).faults v.value)
-    (λ v e n. (goal.Watch-dyn g (v.vtable, v.value)).refuses v.value e n)
+    (λ v. (goal.Watch-dyn g (v.vtable, v.value)).hearing v.value)
     (c.event_of.result ∷ []) (event_of c.args.taken.now ∷ []) c.args.watchers.now.items c.tell_all-dropped.new.watchers.items
     (ap (λ (e : Event). e ∷ []) c.event_of.ensures) c.tell_all-dropped.ensures.heard

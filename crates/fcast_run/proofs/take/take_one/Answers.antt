@@ -25,11 +25,7 @@ returns-clause-events g c = λ installed.
     let taken = c.in_ok-taken.ensures in
     let r = c.args.receiver.now in
     heard_next
-    (λ v. (goal.Watch-dyn g (v.vtable, v.value)).number v.value)
-    (λ v. (goal.Watch-dyn g (v.vtable, v.value)).record_of v.value)
-    (λ v. (goal.Watch-dyn g (v.vtable, v.value)).told v.value)
-    (λ v. (goal.Watch-dyn g (v.vtable, v.value)).faults v.value)
-    (λ v e n. (goal.Watch-dyn g (v.vtable, v.value)).refuses v.value e n)
+    (λ v. (goal.Watch-dyn g (v.vtable, v.value)).hearing v.value)
     (event_of c.in_ok-taken.taken ∷ []) (announcement c.in_ok-number.number) (events_with r.tsi r.budget r.held c.args.datagram.now)
     c.args.watchers.now.items c.tell_taken.new.watchers.items c.tell_installed.new.watchers.items
     (events_are r.tsi r.budget r.held c.args.datagram.now c.in_ok-taken.taken c.in_ok-number.number c.take.new.self.installed (best c.take.new.self.held)
@@ -38,11 +34,7 @@ returns-clause-events g c = λ installed.
 
 pub returns-in_err-taken-clause-part : goal.returns-in_err-taken-clause-part
 returns-in_err-taken-clause-part g c = on_error c.from_residual.result _ (no_event_heard
-    (λ v. (goal.Watch-dyn g (v.vtable, v.value)).number v.value)
-    (λ v. (goal.Watch-dyn g (v.vtable, v.value)).record_of v.value)
-    (λ v. (goal.Watch-dyn g (v.vtable, v.value)).told v.value)
-    (λ v. (goal.Watch-dyn g (v.vtable, v.value)).faults v.value)
-    (λ v e n. (goal.Watch-dyn g (v.vtable, v.value)).refuses v.value e n)
+    (λ v. (goal.Watch-dyn g (v.vtable, v.value)).hearing v.value)
     (events_with c.args.receiver.now.tsi c.args.receiver.now.budget c.args.receiver.now.held c.args.datagram.now) c.args.watchers.now.items)
 
 pub returns-in_err-number-clause-part : goal.returns-in_err-number-clause-part
@@ -115,11 +107,7 @@ returns-in_err-show_installed-clause-part g c =
     let events = events_with r.tsi r.budget r.held c.args.datagram.now in
     let installed = installed_best r c.requires.some.datagrams c.requires.some.has in
     on_error c.from_residual-in_err-show_installed.result _ (whole_is_part events _ (heard_next
-    (λ v. (goal.Watch-dyn g (v.vtable, v.value)).number v.value)
-    (λ v. (goal.Watch-dyn g (v.vtable, v.value)).record_of v.value)
-    (λ v. (goal.Watch-dyn g (v.vtable, v.value)).told v.value)
-    (λ v. (goal.Watch-dyn g (v.vtable, v.value)).faults v.value)
-    (λ v e n. (goal.Watch-dyn g (v.vtable, v.value)).refuses v.value e n)
+    (λ v. (goal.Watch-dyn g (v.vtable, v.value)).hearing v.value)
     (event_of c.in_ok-taken.taken ∷ []) (announcement c.in_ok-number.number) events
     c.args.watchers.now.items c.tell_taken.new.watchers.items c.tell_installed.new.watchers.items
     (events_are r.tsi r.budget r.held c.args.datagram.now c.in_ok-taken.taken c.in_ok-number.number c.take.new.self.installed (best c.take.new.self.held)

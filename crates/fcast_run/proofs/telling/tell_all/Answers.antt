@@ -15,7 +15,7 @@ loop-place-preserved-then-tell_one g c =
       count = search rules;
       front = step_stays old now c.loop-place.place c.loop-place.dropped c.index_mut.result.now c.tell_one.new.watcher c.index_mut.result.now _ _
           less before.rest before.front c.index_mut.ensures.value
-          (told.number refl, λ t. (told.record refl t, told.told t));
+          (told.heard refl);
     }
 
 pub loop-place-preserved : goal.loop-place-preserved
@@ -33,5 +33,5 @@ loop-place-preserved g c =
       front = step_goes old now c.remove-lost.new.self.items c.loop-place.place c.loop-place.dropped
           c.index_mut.result.now c.tell_one.new.watcher c.index_mut.result.now _ _
           less before.rest before.front c.remove-lost.ensures.items c.index_mut.ensures.value
-          (refused_one _ _ _ _ _ _ c.index_mut.result.now _ (told.refuses refl) (told.rose refl));
+          (refused_one _ ((goal.Watch-dyn g (c.index_mut.result.now.vtable, c.index_mut.result.now.value)).hearing c.index_mut.result.now.value) _ (told.refuses refl) (told.rose refl));
     }

@@ -10,11 +10,7 @@ invariant-loop-place g l = record {
   within : l.place ≤ vec_len l.watchers;
   count : l.dropped + vec_len l.watchers ≡ vec_len l.fn.watchers;
   front : Heard
-      (λ v. (goal.Watch-dyn g (v.vtable, v.value)).number v.value)
-      (λ v. (goal.Watch-dyn g (v.vtable, v.value)).record_of v.value)
-      (λ v. (goal.Watch-dyn g (v.vtable, v.value)).told v.value)
-      (λ v. (goal.Watch-dyn g (v.vtable, v.value)).faults v.value)
-      (λ v e n. (goal.Watch-dyn g (v.vtable, v.value)).refuses v.value e n)
+      (λ v. (goal.Watch-dyn g (v.vtable, v.value)).hearing v.value)
       (l.event ∷ []) (take (l.place + l.dropped) l.fn.watchers.items) (take l.place l.watchers.items);
 }
 

@@ -3,7 +3,7 @@ use Rattle.std.proofs.lemmas.Result.{err_from_is_err_and, on_ok_weaker, on_err_w
 use Rattle.edge_io.specs.Shelved.{Shelved}
 use Rattle.edge_io.specs.ShelfCalls.{Begin, Finish, after}
 use Rattle.run_receive.specs.Outcome.{put_of}
-use Rattle.run_base.specs.Endings.{AcceptsFewer}
+use Rattle.run_base.specs.Parts.{AcceptsFewer}
 use Rattle.run_receive.proofs.Installing.{fewer_later, fewer_last, all_accepted}
 use Rattle.run_receive.proofs.shelve.install.Goals as goal
 

@@ -1,4 +1,4 @@
-use Rattle.fcast_run.proofs.listen.run_listen.Given as goal
+use Rattle.fcast_run.proofs.listen.attempt.Given as goal
 
 -- the book of the hub that was just made
 abbrev pub ghosts-receive_beside : goal.ghosts-receive_beside
