@@ -1,3 +1,1 @@
-pub mod AtEnd
-pub mod Complete
 pub mod Gathering

@@ -1,11 +1,11 @@
 //! Doing a task.
 ghost use Rattle.std.specs.Prelude.{◌≡◌};
-ghost use Rattle.fcast_run.specs.Runs.{EndsAs};
+ghost use Rattle.run_tasks.specs.Runs.{EndsAs};
 ghost use Rattle.run_words.specs.Commands.{task_for};
 ghost use Rattle.run_words.specs.Ranges.{IsFit};
 ghost use Rattle.watch_list.specs.Hearing.{Heard};
 
-use crate::edge::Edge;
+use run_tasks::Edge;
 use crate::receive::receive;
 use edge_io::{Datagrams, Emit, Files, Shelf, Text};
 use meta_text::Label;

@@ -3,7 +3,6 @@
 
 mod beside;
 mod doing;
-mod edge;
 mod events;
 mod listen;
 mod receive;
@@ -11,7 +10,7 @@ mod take;
 mod telling;
 mod top_call;
 
-pub use edge::Edge;
+pub use run_tasks::Edge;
 pub use listen::run_listen;
 pub use run_drill::{Summary, drill_into};
 pub use run_readers::{Gate, Wide};

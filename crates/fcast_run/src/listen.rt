@@ -6,13 +6,13 @@ ghost use Rattle.run_base.specs.Statuses.{ReadsToEnd};
 ghost use Rattle.run_headline.specs.Headline.{IsDatagramOf};
 ghost use Rattle.run_words.specs.Commands.{listening_of};
 ghost use Rattle.run_words.specs.declared.listening.Listening.{Listening};
-ghost use Rattle.fcast_run.specs.Listens.{EndsAs, Listens, outcome, uses};
-ghost use Rattle.fcast_run.specs.ListensBest.{ListensBest};
-ghost use Rattle.fcast_run.specs.Runs.{Completes};
+ghost use Rattle.run_tasks.specs.Listens.{EndsAs, Listens, outcome, uses};
+ghost use Rattle.run_tasks.specs.ListensBest.{ListensBest};
+ghost use Rattle.run_tasks.specs.Runs.{Completes};
 ghost use Rattle.watch_list.specs.Hearing.{Heard};
 
 use crate::beside::receive_beside;
-use crate::edge::Edge;
+use run_tasks::Edge;
 use edge_io::{Datagrams, Emit, Files, Shelf, Text};
 use meta_text::Label;
 use run_base::{Fault, Status, number, tell_usage};

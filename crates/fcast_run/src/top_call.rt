@@ -7,12 +7,12 @@ ghost use Rattle.run_base.specs.declared.settings.Settings.{Settings};
 ghost use Rattle.run_headline.specs.Headline.{IsDatagramOf, InstallsBest};
 ghost use Rattle.run_words.specs.Commands.{task_for};
 ghost use Rattle.run_words.specs.declared.task.Task.TheVariants as tasks;
-ghost use Rattle.fcast_run.specs.Runs.{Runs, Completes};
-ghost use Rattle.fcast_run.specs.Tasks.{uses, outcome};
+ghost use Rattle.run_tasks.specs.Runs.{Runs, Completes};
+ghost use Rattle.run_tasks.specs.Tasks.{uses, outcome};
 ghost use Rattle.watch_list.specs.Hearing.{Heard};
 
 use crate::doing::attempt;
-use crate::edge::Edge;
+use run_tasks::Edge;
 use edge_io::{Datagrams, Emit, Files, Shelf, Text};
 use meta_text::Label;
 use run_base::number;

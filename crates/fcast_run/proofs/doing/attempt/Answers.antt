@@ -1,6 +1,6 @@
 use Rattle.std.proofs.Common.{refl}
 use Rattle.watch_list.proofs.Public.{heard_nothing}
-use Rattle.fcast_run.proofs.Complete.{for_task, task_at_memory}
+use Rattle.run_tasks.proofs.Public.{for_task, task_at_memory}
 use Rattle.fcast_run.proofs.doing.attempt.Goals as goal
 
 pub returns-in_err-task : goal.returns-in_err-task

@@ -1,6 +1,6 @@
 use Rattle.std.proofs.Common.{◌∙◌, refl, sym, Some, None}
 use Rattle.watch_list.proofs.Public.{heard_nothing}
-use Rattle.fcast_run.proofs.Complete.{for_listening, listening_at_memory, usage_ends}
+use Rattle.run_tasks.proofs.Public.{for_listening, listening_at_memory, usage_ends}
 use Rattle.fcast_run.proofs.listen.attempt.Goals as goal
 
 pub returns-in_err-listening : goal.returns-in_err-listening

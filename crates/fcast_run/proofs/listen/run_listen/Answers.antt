@@ -1,5 +1,5 @@
-use Rattle.fcast_run.proofs.AtEnd.{listens_best_of}
-use Rattle.fcast_run.proofs.Complete.{completes_of}
+use Rattle.run_tasks.proofs.Public.{listens_best_of}
+use Rattle.run_tasks.proofs.Public.{completes_of}
 use Rattle.fcast_run.proofs.listen.run_listen.Goals as goal
 
 pub returns-clause-headline : goal.returns-clause-headline

@@ -1,5 +1,5 @@
-use Rattle.fcast_run.proofs.AtEnd.{headline_of}
-use Rattle.fcast_run.proofs.Complete.{completes_of}
+use Rattle.run_tasks.proofs.Public.{headline_of}
+use Rattle.run_tasks.proofs.Public.{completes_of}
 use Rattle.fcast_run.proofs.top_call.run.Goals as goal
 
 pub returns-clause-headline : goal.returns-clause-headline

@@ -19,10 +19,10 @@ use Rattle.run_receive.specs.Outcome.{received}
 use Rattle.run_words.specs.declared.listening.Listening.{Listening}
 use Rattle.run_words.specs.declared.task.Task.{Task}
 use Rattle.run_words.specs.declared.task.Task.TheVariants as tasks
-use Rattle.fcast_run.specs.Listens as listens
-use Rattle.fcast_run.specs.ListensBest.{ListensBest}
-use Rattle.fcast_run.specs.Runs.{EndsAs}
-use Rattle.fcast_run.specs.declared.edge.Edge.{Edge}
+use Rattle.run_tasks.specs.Listens as listens
+use Rattle.run_tasks.specs.ListensBest.{ListensBest}
+use Rattle.run_tasks.specs.Runs.{EndsAs}
+use Rattle.run_tasks.specs.declared.edge.Edge.{Edge}
 
 pub headline_of : {D E F S T : Type 0} (d : datagrams.Ghosts D) (e : emit.Ghosts E) (f : files.Ghosts F) (s : shelf.Ghosts S) (t : text.Ghosts T)
     (task : Task) (old new : Edge D E F S T) (Hears : List Event → Type 0) (unheard : Type 0) (answer : Answer) (result : ℕ) → result ≡ number answer

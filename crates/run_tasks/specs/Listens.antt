@@ -15,8 +15,8 @@ use Rattle.run_readers.specs.Listens.{LeavesLines}
 use Rattle.run_receive.specs.Events.{published}
 use Rattle.run_receive.specs.Outcome.{received, listen_uses}
 use Rattle.run_words.specs.declared.listening.Listening.{Listening}
-use Rattle.fcast_run.specs.Runs.{Ends, IsKnown}
-use Rattle.fcast_run.specs.declared.edge.Edge.{Edge}
+use Rattle.run_tasks.specs.Runs.{Ends, IsKnown}
+use Rattle.run_tasks.specs.declared.edge.Edge.{Edge}
 
 -- the usage line is told of words that are no listening
 abbrev pub uses : Option Listening → Uses

@@ -17,8 +17,8 @@ use Rattle.run_base.specs.Tellings.{Tells}
 use Rattle.run_base.specs.declared.fault.Fault.TheVariants.{Memory}
 use Rattle.run_base.specs.declared.status.Status.TheVariants.{Done, Missing}
 use Rattle.run_words.specs.declared.task.Task.{Task}
-use Rattle.fcast_run.specs.Tasks.{uses, outcome, session_of}
-use Rattle.fcast_run.specs.declared.edge.Edge.{Edge}
+use Rattle.run_tasks.specs.Tasks.{uses, outcome, session_of}
+use Rattle.run_tasks.specs.declared.edge.Edge.{Edge}
 
 -- the datagrams are connected to the place, and as many are read as are asked for
 pub record Takes {D : Type 0} (d : datagrams.Ghosts D) (told : Type 0) (writes : Writes) (asked : ℕ) (place : Place) (old new : D)

@@ -25,10 +25,10 @@ use Rattle.run_readers.proofs.Public.{nothing_told}
 use Rattle.run_receive.specs.Events.{published}
 use Rattle.run_words.specs.declared.listening.Listening.{Listening}
 use Rattle.run_words.specs.declared.task.Task.{Task}
-use Rattle.fcast_run.specs.Listens as listens
-use Rattle.fcast_run.specs.Runs.{Completes, Ends, EndsAs, IsKnown, Sends, Takes}
-use Rattle.fcast_run.specs.Tasks as tasks
-use Rattle.fcast_run.specs.declared.edge.Edge.{Edge}
+use Rattle.run_tasks.specs.Listens as listens
+use Rattle.run_tasks.specs.Runs.{Completes, Ends, EndsAs, IsKnown, Sends, Takes}
+use Rattle.run_tasks.specs.Tasks as tasks
+use Rattle.run_tasks.specs.declared.edge.Edge.{Edge}
 
 -- ---- where no device failed
 
