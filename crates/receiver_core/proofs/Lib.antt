@@ -6,6 +6,7 @@ pub mod Going
 pub mod Chosen
 pub mod Settles
 pub mod Keeping
+pub mod Beaten
 pub mod Maps
 pub mod Finding
 pub mod Datagrams

@@ -11,6 +11,7 @@ mod reaching;
 mod receiver;
 mod settling;
 mod standing;
+mod sweeping;
 mod taken;
 mod waiting;
 

@@ -11,6 +11,7 @@ ghost use Rattle.held_packets.specs.Verdict.{verdict, step, is_new, row_steps};
 ghost use Rattle.receiver_core.specs.Receiver.{Receiver, Announces, standing_of};
 
 use crate::settling::{find, install};
+use crate::sweeping::{Swept, sweep};
 use crate::waiting::Waiting;
 use crate::{Kept, Standing, Taken};
 use alc_packet::{Datagram, Packet};
@@ -33,6 +34,8 @@ pub struct Receiver {
     waiting: Waiting,
     /// Whether want of memory has lost some of those.
     lost: bool,
+    /// When those that are beaten were let go last.
+    swept: Swept,
     /// So many of the store's ready objects, from the first on, were settled.
     settled: usize,
     /// The best instance of those.
@@ -72,6 +75,7 @@ impl Receiver {
             standings: BTreeMap::new(alloc),
             waiting: BTreeMap::new(alloc),
             lost: false,
+            swept: Swept::new(),
             settled: 0,
             installed: None,
             drops: 0,
@@ -178,11 +182,30 @@ impl Receiver {
             Ok(found) => {
                 self.lost = false;
                 self.settled = count;
-                Ok(install(&mut self.installed, found))
+                let number = install(&mut self.installed, found);
+                self.let_beaten_go();
+                Ok(number)
             }
             Err(error) => {
                 self.lost = true;
                 Err(error)
+            }
+        }
+    }
+
+    /// Lets those candidates go that what is installed beats, where that is worth its cost. Where there is no memory for
+    /// it all candidates are let go, and the next settling that has something to read reads all ready objects again.
+    fn let_beaten_go(&mut self)
+        ensures { self.new ≡ self.old }
+    {
+        if !self.swept.is_due(self.settled) {
+            return;
+        }
+        match sweep(self.alloc, &self.installed, self.settled, &mut self.waiting) {
+            Ok(swept) => self.swept = swept,
+            Err(_) => {
+                self.waiting.clear();
+                self.lost = true;
             }
         }
     }

@@ -32,26 +32,27 @@ returns-then-self-count-clause-answer c =
 pub invariant_of-self : goal.invariant_of-self
 invariant_of-self c =
     let s = c.self.inside in
-    subst (λ n. IsSettling s.store c.find.new.standings c.find.new.waiting n false c.install.new.installed) (ap (length {A = ℕ}) (sym c.ready-count.ensures.ready))
-    (settled_now s.store c.find.new.standings c.find.new.waiting c.install.new.installed c.ready-count.ensures.listed
-    (subst (IsRead s.store c.find.new.standings c.find.new.waiting (length s.store.ready)) (sym c.install.ensures.installed) c.in-Ok.ensures.ok)
-    (subst (IsBestOf (whole s.store.held)) (sym c.install.ensures.installed) (found_best (whole s.store.held) s.installed c.in-Ok.found c.in-Ok.ensures.found)))
+    subst (λ n. IsSettling s.store c.find.new.standings c.find.new.waiting n false c.install-number.new.installed) (ap (length {A = ℕ}) (sym c.ready-count.ensures.ready))
+    (settled_now s.store c.find.new.standings c.find.new.waiting c.install-number.new.installed c.ready-count.ensures.listed
+    (subst (IsRead s.store c.find.new.standings c.find.new.waiting (length s.store.ready)) (sym c.install-number.ensures.installed) c.in-Ok.ensures.ok)
+    (subst (IsBestOf (whole s.store.held)) (sym c.install-number.ensures.installed) (found_best (whole s.store.held) s.installed c.in-Ok.found c.in-Ok.ensures.found)))
 
 pub returns-in-Ok-clause-best : goal.returns-in-Ok-clause-best
 returns-in-Ok-clause-best c =
     let s = c.self.inside in
-    subst (λ (r : Receiver). c.install.new.installed ≡ best r.held) c.self.view_is (best_is s.store.held
-    c.install.new.installed (subst (IsBestOf (whole s.store.held)) (sym c.install.ensures.installed)
+    ap (λ (r : Receiver). r.installed) c.let_beaten_go.ensures
+    ∙ subst (λ (r : Receiver). c.install-number.new.installed ≡ best r.held) c.self.view_is (best_is s.store.held
+    c.install-number.new.installed (subst (IsBestOf (whole s.store.held)) (sym c.install-number.ensures.installed)
     (found_best (whole s.store.held) s.installed c.in-Ok.found c.in-Ok.ensures.found)))
 
 pub returns-in-Ok-clause-answer : goal.returns-in-Ok-clause-answer
 returns-in-Ok-clause-answer c =
     let s = c.self.inside in
     let is = best_is s.store.held (option_or c.in-Ok.found s.installed) (found_best (whole s.store.held) s.installed c.in-Ok.found c.in-Ok.ensures.found) in
-    subst (λ (r : Receiver). Announces c.install.result r.installed (best r.held)) c.self.view_is
-    (subst (λ (b : Option Shown). Announces c.install.result s.installed b) is
+    subst (λ (r : Receiver). Announces c.install-number.result r.installed (best r.held)) c.self.view_is
+    (subst (λ (b : Option Shown). Announces c.install-number.result s.installed b) is
     (subst (λ (n : Option ℕ). Announces n s.installed (option_or c.in-Ok.found s.installed))
-    (sym c.install.ensures.number) (found_told (whole s.store.held) s.installed c.in-Ok.found c.in-Ok.ensures.found)))
+    (sym c.install-number.ensures.number) (found_told (whole s.store.held) s.installed c.in-Ok.found c.in-Ok.ensures.found)))
 
 pub returns-in-Err-clause-no_memory : goal.returns-in-Err-clause-no_memory
 returns-in-Err-clause-no_memory c =
