@@ -16,14 +16,17 @@ use Rattle.receiver_core.specs.BestOf.{best, installed_after}
 use Rattle.receiver_core.specs.Classes.{packets_of, held_with}
 use Rattle.snapshot_hub.specs.Histories.{last_of, IsRising, one_above}
 use Rattle.snapshot_hub.proofs.Public.{last_snoc, rising_empty, rising_snoc}
-use Rattle.run_receive.specs.Events.{installed_numbers, other_instance, published_with, published_of, events_of, same_instance}
+use Rattle.run_base.specs.Bounds.{limit, datagrams_taken}
+use Rattle.run_base.specs.declared.settings.Settings.{Settings}
+use Rattle.run_receive.specs.Events.{installed_numbers, other_instance, published, published_with, published_of, events_taken, same_instance}
+use Rattle.run_receive.specs.Outcome.{packets_taken}
 use Rattle.run_receive.specs.Showings.{with_option}
 use Rattle.run_receive.proofs.EventLists.{same_installed}
 use Rattle.run_receive.proofs.Showing.{above, next_not_older, numbers_of, one_more}
 use Rattle.run_receive.proofs.Taking.{best_of_nothing, held_at_end}
 
 -- these were published, and in the end this is installed
-pub record EndsWith (published : List Shown) (installed : Option Shown) : Type 0 where
+record EndsWith (published : List Shown) (installed : Option Shown) : Type 0 where
   pub rising : IsRising published
   pub last : last_of published ≡ installed
 
@@ -63,10 +66,20 @@ ends_with_first tsi budget (suc i) ds bytes few =
     (subst (EndsWith (published_of tsi budget (take (i + 1) ds))) now
     (subst (λ shown. EndsWith shown (best (held_with tsi budget held d))) (sym (one_more tsi budget i ds d held refl more)) ends))
 
-pub ends_with : (tsi budget : ℕ) (ds : List (List ℕ)) → All AreBytes ds → EndsWith (published_of tsi budget ds) (installed_after budget (packets_of tsi ds))
+ends_with : (tsi budget : ℕ) (ds : List (List ℕ)) → All AreBytes ds → EndsWith (published_of tsi budget ds) (installed_after budget (packets_of tsi ds))
 ends_with tsi budget ds bytes =
     subst (λ es. EndsWith (published_of tsi budget es) (installed_after budget (packets_of tsi es))) (take-length ds)
     (ends_with_first tsi budget (length ds) ds bytes (omega arith))
+
+-- of the datagrams that a receiver takes
+ends_with_taken : (c : Settings) (left : List (List ℕ)) → All AreBytes left → EndsWith (published c left) (installed_after c.budget (packets_taken c left))
+ends_with_taken c left bytes = ends_with c.tsi c.budget (datagrams_taken c left) (All-take AreBytes (limit c.bound) left bytes)
+
+pub published_rising : (c : Settings) (left : List (List ℕ)) → All AreBytes left → IsRising (published c left)
+published_rising c left bytes = (ends_with_taken c left bytes).rising
+
+pub last_installed : (c : Settings) (left : List (List ℕ)) → All AreBytes left → last_of (published c left) ≡ installed_after c.budget (packets_taken c left)
+last_installed c left bytes = (ends_with_taken c left bytes).last
 
 -- the numbers alone
 rising_numbers : (is : List Shown) → IsRising is → IsNonDecreasing (map (λ i. i.number) is)
@@ -78,6 +91,6 @@ rising_numbers (s ∷ is) rising i j d le less =
     let high = get_or-map number (s ∷ is) j s d (omega (arith, less, long)) in
     omega (arith, low, high, rising i j s le (omega (arith, less, long)))
 
-pub told_rising : (tsi budget : ℕ) (ds : List (List ℕ)) → All AreBytes ds → IsNonDecreasing (installed_numbers (events_of tsi budget ds))
-told_rising tsi budget ds bytes =
-    subst IsNonDecreasing (sym (numbers_of tsi budget ds)) (rising_numbers (published_of tsi budget ds) (ends_with tsi budget ds bytes).rising)
+pub told_rising : (c : Settings) (left : List (List ℕ)) → All AreBytes left → IsNonDecreasing (installed_numbers (events_taken c left))
+told_rising c left bytes =
+    subst IsNonDecreasing (sym (numbers_of c.tsi c.budget (datagrams_taken c left))) (rising_numbers (published c left) (published_rising c left bytes))
