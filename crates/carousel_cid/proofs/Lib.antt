@@ -4,6 +4,8 @@ pub mod Numbers
 pub mod Entries
 pub mod Texts
 pub mod Kept
+pub mod Runs
+pub mod Seen
 pub mod Causes
 pub mod Joins
 pub mod FileFields

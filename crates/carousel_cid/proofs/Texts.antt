@@ -10,7 +10,7 @@ use Rattle.std.proofs.lemmas.List.Splits.{slice_split_first, slice_split_none}
 use Rattle.meta_text.proofs.Public.{found_at, none_at, any_without_place}
 use Rattle.carousel_cid.specs.declared.entry.Entry.{Entry}
 use Rattle.carousel_cid.specs.declared.list.Kept.{Kept}
-use Rattle.carousel_cid.specs.IdentifierList.{size_of}
+use Rattle.carousel_cid.specs.IdentifierList.{size_of, identifiers_of}
 use Rattle.carousel_cid.specs.Inner.Listing.{is_comma, without_line_end, cut_at_commas, texts_in, entry_in, bad_place, size_in, count_in, identifiers_in, range_in}
 use Rattle.carousel_cid.specs.Inner.Walks.{texts_from, added_all}
 use Rattle.carousel_cid.proofs.Kept.{added_all-append}
@@ -90,13 +90,13 @@ walk_on old new text entry texts rest first is adds =
 -- the same of what is kept: with what is to come it stays the whole
 pub kept_walk_on : (old new : Option Kept) (text : List ℕ) (entry : Entry) (texts rest : List (List ℕ)) (whole : List ℕ)
     → texts ≡ text ∷ rest → Some entry ≡ entry_in text
-    → IfSome new (λ n. MatchOption old ⊥ (λ o. n.listed.items ≡ added_all o.listed.items (range_in (Some entry))))
-    → IfSome old (λ o. added_all o.listed.items (identifiers_in texts) ≡ whole)
-    → IfSome new (λ n. added_all n.listed.items (identifiers_in rest) ≡ whole)
+    → IfSome new (λ n. MatchOption old ⊥ (λ o. identifiers_of n.runs.items ≡ added_all (identifiers_of o.runs.items) (range_in (Some entry))))
+    → IfSome old (λ o. added_all (identifiers_of o.runs.items) (identifiers_in texts) ≡ whole)
+    → IfSome new (λ n. added_all (identifiers_of n.runs.items) (identifiers_in rest) ≡ whole)
 kept_walk_on old None text entry texts rest whole first is adds all = tt
 kept_walk_on None (Some n) text entry texts rest whole first is adds all = absurd adds
 kept_walk_on (Some o) (Some n) text entry texts rest whole first is adds all =
-    walk_on o.listed.items n.listed.items text (Some entry) texts rest first is adds ∙ all
+    walk_on (identifiers_of o.runs.items) (identifiers_of n.runs.items) text (Some entry) texts rest first is adds ∙ all
 
 -- behind the end the walk knows of all texts whether one is bad, and their count up to what is too many
 pub walked : (body list : List ℕ) (at count : ℕ) → list ≡ without_line_end body → 0 < length list → length list < at

@@ -1,5 +1,6 @@
 pub mod Number
 pub mod KnownFields
+pub mod Fronts
 pub mod Repeats
 pub mod IdentifierList
 pub mod BadEntry

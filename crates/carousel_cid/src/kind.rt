@@ -1,6 +1,6 @@
 //! The kinds of objects, and the causes why one is unusable.
 
-use crate::Identifiers;
+use crate::Listed;
 use compound_object::Blob;
 use meta_text::Label;
 
@@ -39,7 +39,7 @@ pub enum Kind {
     /// each at its first place alone.
     Descriptor {
         number: u32,
-        listed: Identifiers,
+        listed: Listed,
     },
     /// Neither, and why.
     Unusable(Cause),

@@ -1,18 +1,21 @@
 //! The list of identifiers that is the body of a descriptor.
-ghost use Rattle.std.specs.Prelude.{◌≡◌, ◌+◌, ◌-◌, ◌≤◌, ◌<◌, ◌^◌, ◌∷◌, length, min, Some, None, OnOk, IfOk, IfErr, IfSome, MatchOption};
-ghost use Rattle.std.specs.List.{range_with_len};
+ghost use Rattle.std.specs.Prelude.{◌≡◌, ◌+◌, ◌≤◌, ◌<◌, ◌^◌, ◌∷◌, length, min, Some, OnOk, IfOk, IfErr, IfSome, MatchOption};
+ghost use Rattle.std.specs.List.{AllByRecursion};
 ghost use Rattle.carousel_cid.specs.declared.entry.Entry.{Entry};
 ghost use Rattle.carousel_cid.specs.Inner.Listing as specs;
-ghost use Rattle.carousel_cid.specs.IdentifierList.{size_of};
+ghost use Rattle.carousel_cid.specs.IdentifierList.{size_of, identifiers_of};
 ghost use Rattle.carousel_cid.specs.Causes.{list_fault};
 ghost use Rattle.carousel_cid.specs.Repeats.{first_places};
-ghost use Rattle.carousel_cid.specs.Inner.Walks.{texts_from, added, added_all, AreKeysOf};
+ghost use Rattle.carousel_cid.specs.Inner.Runs.{IsRun, AreSeen};
+ghost use Rattle.carousel_cid.specs.Inner.Walks.{texts_from, added_all};
 
+use crate::adding::{Seen, add_range};
 use crate::entry::{Entry, read_entry};
 use crate::kind::Cause;
+use crate::listed::Listed;
 use meta_text::{place_of, without_return};
 use std::alloc::{AllocError, Global};
-use std::collections::BTreeSet;
+use std::collections::BTreeMap;
 
 /// How many identifiers a descriptor may list, repeats counted.
 const MOST_LISTED: u128 = 4096;
@@ -20,8 +23,8 @@ const MOST_LISTED: u128 = 4096;
 /// The identifiers of a list so far, each at its first place alone.
 #[derive(Drop)]
 struct Kept {
-    listed: Vec<u128>,
-    seen: BTreeSet<u128>,
+    runs: Vec<Entry>,
+    seen: Seen,
 }
 
 /// The identifiers that a body lists, each at its first place alone; or what is wrong with it.
@@ -29,19 +32,19 @@ struct Kept {
 /// It is one walk, which goes on where memory was refused, since that is told only of a list in which nothing is
 /// wrong.
 #[tactic(auto, unfolding(crate::specs::Causes::list_fault))]
-pub(crate) fn read_list(alloc: Global, body: &[u8]) -> Result<Result<Vec<u128>, AllocError>, Cause>
+pub(crate) fn read_list(alloc: Global, body: &[u8]) -> Result<Result<Listed, AllocError>, Cause>
     ensures sound { OnOk result (list_fault body.now ≡ None) }
-    ensures listed { IfOk result (λ found. IfOk found (λ v. v.items ≡ first_places (specs.identifiers_in (specs.texts_in body.now)))) }
+    ensures listed { IfOk result (λ found. IfOk found (λ v. v ≡ first_places (specs.identifiers_in (specs.texts_in body.now)))) }
     ensures fault { IfErr result (λ cause. list_fault body.now ≡ Some cause) }
 {
     let list = without_line_end(body);
     if list.is_empty() {
-        return Ok(Ok(Vec::new(alloc)));
+        return Ok(Ok(Listed::new(Vec::new(alloc))));
     }
     let mut count: u128 = 0;
     let mut kept = Some(Kept {
-        listed: Vec::new(alloc),
-        seen: BTreeSet::new(alloc),
+        runs: Vec::new(alloc),
+        seen: BTreeMap::new(alloc),
     });
     let mut at: usize = 0;
     while at <= list.len() {
@@ -58,7 +61,7 @@ pub(crate) fn read_list(alloc: Global, body: &[u8]) -> Result<Result<Vec<u128>, 
     }
     match kept {
         None => Ok(Err(AllocError)),
-        Some(kept) => Ok(Ok(kept.listed)),
+        Some(kept) => Ok(Ok(Listed::new(kept.runs))),
     }
 }
 
@@ -75,47 +78,21 @@ fn counted(count: u128, entry: Entry) -> u128
 /// What is kept with the identifiers of an entry more. Nothing is kept of a list that counts too many identifiers,
 /// nor where memory is refused.
 fn kept_with(kept: Option<Kept>, entry: Entry, count: u128) -> Option<Kept>
-    requires keys { IfSome kept (λ k. AreKeysOf k.seen k.listed.items) }
+    requires runs { IfSome kept (λ k. AllByRecursion IsRun k.runs.items) }
+    requires seen { IfSome kept (λ k. AreSeen k.seen (identifiers_of k.runs.items)) }
     requires fits { entry.last < 2 ^ 112 }
-    ensures all { IfSome result (λ new. MatchOption kept ⊥ (λ old. new.listed.items ≡ added_all old.listed.items (specs.range_in (Some entry)))) }
-    ensures keys { IfSome result (λ new. AreKeysOf new.seen new.listed.items) }
+    ensures all { IfSome result (λ new. MatchOption kept ⊥ (λ old. identifiers_of new.runs.items ≡ added_all (identifiers_of old.runs.items) (specs.range_in (Some entry)))) }
+    ensures runs { IfSome result (λ new. AllByRecursion IsRun new.runs.items) }
+    ensures seen { IfSome result (λ new. AreSeen new.seen (identifiers_of new.runs.items)) }
 {
     let mut kept = kept?;
     if count > MOST_LISTED {
         return None;
     }
-    match add_range(&mut kept.listed, &mut kept.seen, entry.first, entry.last) {
+    match add_range(&mut kept.runs, &mut kept.seen, entry.first, entry.last) {
         Ok(()) => Some(kept),
         Err(_) => None,
     }
-}
-
-fn add_range(
-    listed: &mut Vec<u128>,
-    seen: &mut BTreeSet<u128>,
-    first: u128,
-    last: u128,
-) -> Result<(), AllocError>
-    requires keys { AreKeysOf seen.old listed.old.items }
-    requires fits { last < 2 ^ 112 }
-    ensures ok { OnOk result (listed.new.items ≡ added_all listed.old.items (range_with_len first (last + 1 - first))) }
-    ensures keys { OnOk result (AreKeysOf seen.new listed.new.items) }
-{
-    for toi in first..last + 1 {
-        add(listed, seen, toi)?;
-    }
-    Ok(())
-}
-
-fn add(listed: &mut Vec<u128>, seen: &mut BTreeSet<u128>, toi: u128) -> Result<(), AllocError>
-    requires keys { AreKeysOf seen.old listed.old.items }
-    ensures ok { OnOk result (listed.new.items ≡ added listed.old.items toi) }
-    ensures keys { OnOk result (AreKeysOf seen.new listed.new.items) }
-{
-    if seen.insert(toi)? {
-        listed.push(toi)?;
-    }
-    Ok(())
 }
 
 /// The text from this place up to the next comma or the end.

@@ -16,7 +16,7 @@ ghost use Rattle.carousel_cid.specs.Kinds.{kind_of_parts, kind_of_object, kind_u
 
 use crate::list::read_list;
 use crate::number::{number_below, writes_number};
-use crate::{Cause, Identifiers, Kind};
+use crate::{Cause, Kind, Listed};
 use compound_object::{Blob, Compound, CompoundFault};
 use meta_text::{Field, Fields, Label};
 use std::alloc::{AllocError, Global};
@@ -205,7 +205,7 @@ fn descriptor(alloc: Global, fields: &Fields, body: &[u8]) -> Result<Kind, Alloc
         Err(cause) => Ok(Kind::Unusable(cause)),
         Ok((number, listed)) => Ok(Kind::Descriptor {
             number,
-            listed: Identifiers::new(listed?),
+            listed: listed?,
         }),
     }
 }
@@ -217,10 +217,10 @@ fn numbered_list(
     alloc: Global,
     fields: &Fields,
     body: &[u8],
-) -> Result<(u32, Result<Vec<u128>, AllocError>), Cause>
+) -> Result<(u32, Result<Listed, AllocError>), Cause>
     ensures sound { OnOk result (causes.descriptor_fault fields.now body.now ≡ None) }
     ensures number { IfOk result (λ found. Some found.0 ≡ causes.number_in (value_of names.number_name fields.now)) }
-    ensures listed { IfOk result (λ found. IfOk found.1 (λ v. v.items ≡ first_places (identifiers_in (texts_in body.now)))) }
+    ensures listed { IfOk result (λ found. IfOk found.1 (λ v. v ≡ first_places (identifiers_in (texts_in body.now)))) }
     ensures fault { IfErr result (λ cause. causes.descriptor_fault fields.now body.now ≡ Some cause) }
 {
     let text = value(fields, NUMBER);

@@ -25,6 +25,7 @@ use std::process::ExitCode;
 use std::rt::Env;
 use std::sync::{Arc, Wait};
 use std::thread::Threads;
+use std::time::Clock;
 use std::{env, io};
 use watch_list::{Bell, Counter, Lines, Watch};
 
@@ -46,7 +47,7 @@ fn main(rt: HostRuntime) -> ExitCode {
 }
 
 /// Runs the command as the environment variables ask for it.
-fn run_words<R: Threads + Wait + Copy + Send + 'static>(
+fn run_words<R: Threads + Wait + Clock + Copy + Send + 'static>(
     threads: &R,
     rt: HostRuntime,
     words: &[Label],
@@ -74,7 +75,7 @@ fn run_words<R: Threads + Wait + Copy + Send + 'static>(
 
 /// Runs the command over the real forms, and says what the watchers heard and which of the forms failed. The readers of
 /// a listening run on `threads`.
-fn run_outside<R: Threads + Wait + Copy + Send + 'static>(
+fn run_outside<R: Threads + Wait + Clock + Copy + Send + 'static>(
     threads: &R,
     rt: HostRuntime,
     settings: Settings,

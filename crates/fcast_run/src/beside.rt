@@ -21,6 +21,7 @@ use snapshot_hub::{Hub, Naming, Publisher, make};
 use std::alloc::Global;
 use std::sync::{Arc, Wait};
 use std::thread::Threads;
+use std::time::Clock;
 use watch_list::Watch;
 
 /// Receives the session, while readers look at what is installed, and writes their lines after the report. All memory
@@ -28,7 +29,7 @@ use watch_list::Watch;
 /// each thread, and of the publisher.
 pub fn receive_beside<
     H: Naming + Send + Sync + 'static,
-    R: Threads + Wait + Copy + Send + 'static,
+    R: Threads + Wait + Clock + Copy + Send + 'static,
     D: Datagrams,
     S: Shelf,
     T: Text,

@@ -23,6 +23,7 @@ use std::alloc::Global;
 use std::marker::Brand;
 use std::sync::{Arc, Wait};
 use std::thread::Threads;
+use std::time::Clock;
 use watch_list::Watch;
 
 /// Does what the words say where they are a listening, and answers the status.
@@ -37,7 +38,7 @@ use watch_list::Watch;
 /// The status is as that of `run`. Memory for the readers is taken before the first of them is started; one for which no
 /// thread can be started is run at the end.
 pub fn run_listen<
-    R: Threads + Wait + Copy + Send + 'static,
+    R: Threads + Wait + Clock + Copy + Send + 'static,
     D: Datagrams,
     E: Emit,
     F: Files,
@@ -69,7 +70,7 @@ pub fn run_listen<
 
 /// Does what the words say where they are a listening.
 fn attempt<
-    R: Threads + Wait + Copy + Send + 'static,
+    R: Threads + Wait + Clock + Copy + Send + 'static,
     D: Datagrams,
     E: Emit,
     F: Files,

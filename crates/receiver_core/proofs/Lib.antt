@@ -1,5 +1,4 @@
 pub mod Lists
-pub mod Runs
 pub mod Completing
 pub mod Bests
 pub mod Candidacies

@@ -1,6 +1,5 @@
 pub mod Lists
 pub mod Candidates
-pub mod Runs
 pub mod Choice
 pub mod Drops
 pub mod Standings

@@ -6,7 +6,7 @@ ghost use Rattle.receiver_core.specs.Best.{complete, file_of, files_of, file_of_
 ghost use Rattle.receiver_core.specs.Inner.Candidates.{kind_at};
 
 use crate::candidate::Candidate;
-use carousel_cid::{FileList, FileOf, Identifiers, Instance, Kind, kind_of};
+use carousel_cid::{FileList, FileOf, Instance, Kind, Listed, kind_of};
 use object_store::Store;
 use std::alloc::{AllocError, Global};
 
@@ -31,17 +31,18 @@ pub fn instance_of(
     }
 }
 
-/// The instance that this descriptor announces.
+/// The instance that this descriptor announces. Its list is written out here alone.
 fn announced(
     alloc: Global,
     store: &Store,
     toi: u128,
     number: u32,
-    listed: Identifiers,
+    listed: Listed,
 ) -> Result<Option<Instance>, AllocError>
     requires { kind_at (whole store.now.held) toi ≡ Some (Kind.Descriptor number listed) }
     ensures { IfOk result (λ i. i ≡ complete (whole store.now.held) toi) }
 {
+    let listed = listed.write_out(alloc)?;
     let Some(files) = files_of(alloc, store, listed.as_slice())? else {
         return Ok(None);
     };

@@ -1,6 +1,6 @@
 //! A descriptor that may become the best instance.
 
-use crate::rest::Rest;
+use carousel_cid::Listed;
 
 /// A ready descriptor, and what it waits for.
 #[derive(Drop)]
@@ -10,5 +10,5 @@ pub struct Candidate {
     /// The number of its instance.
     pub number: u32,
     /// The identifiers that it lists, without those in front that are known as files.
-    pub rest: Rest,
+    pub rest: Listed,
 }

@@ -10,7 +10,6 @@ ghost use Rattle.receiver_core.specs.Inner.Standings.{standing_of_bytes};
 
 use crate::Standing;
 use crate::candidate::Candidate;
-use crate::rest::rest_of;
 use carousel_cid::{Kind, kind_of};
 use object_store::Store;
 use std::alloc::{AllocError, Global};
@@ -76,8 +75,11 @@ fn classify(
             standings.insert(toi, Standing::Unusable(cause))?;
         }
         Kind::Descriptor { number, listed } => {
-            let rest = rest_of(alloc, listed.as_slice())?;
-            candidates.push(Candidate { toi, number, rest })?;
+            candidates.push(Candidate {
+                toi,
+                number,
+                rest: listed,
+            })?;
             standings.insert(toi, Standing::Descriptor { number })?;
         }
     }

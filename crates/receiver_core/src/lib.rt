@@ -9,7 +9,6 @@ pub mod laws;
 mod placing;
 mod reaching;
 mod receiver;
-mod rest;
 mod settling;
 mod standing;
 mod taken;

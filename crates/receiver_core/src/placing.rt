@@ -29,13 +29,13 @@ pub fn place_all(
 {
     let mut ended = Vec::new(alloc);
     let mut left = woken;
-    while let Some(mut candidate) = left.pop() {
-        pass(standings, &mut candidate.rest);
+    while let Some(candidate) = left.pop() {
         place(alloc, standings, installed, candidate, waiting, &mut ended)?;
     }
     Ok(ended)
 }
 
+/// Has a candidate go on to its first file that isn't there. Nothing is looked up for one that what is installed beats.
 fn place(
     alloc: Global,
     standings: &BTreeMap<u128, Standing>,
@@ -44,12 +44,15 @@ fn place(
     waiting: &mut Waiting,
     ended: &mut Vec<Candidate>,
 ) -> Result<(), AllocError>
-    ensures ended { OnOk result (ended.new.items ≡ ended.old.items ++ ended_of installed.now candidate) }
-    ensures waiting { OnOk result ((t : ℕ) → waiting_for waiting.new t ≡ waiting_for waiting.old t ++ waits_of standings.now installed.now t candidate) }
+    ensures ended { OnOk result (ended.new.items ≡ ended.old.items ++ ended_of installed.now (advanced (is_known standings.now) candidate)) }
+    ensures waiting { OnOk result ((t : ℕ) → waiting_for waiting.new t
+        ≡ waiting_for waiting.old t ++ waits_of standings.now installed.now t (advanced (is_known standings.now) candidate)) }
 {
+    let mut candidate = candidate;
     if !candidate.beats_installed(installed) {
         return Ok(());
     }
+    pass(standings, &mut candidate.rest);
     match candidate.rest.first() {
         None => ended.push(candidate)?,
         Some(toi) => {

@@ -4,13 +4,13 @@ ghost use Rattle.receiver_core.specs.Inner.Lists.{behind, starts};
 ghost use Rattle.receiver_core.specs.Inner.Standings.{is_known};
 
 use crate::Standing;
-use crate::rest::Rest;
+use carousel_cid::Listed;
 use std::collections::BTreeMap;
 
 /// Takes those in front away that are known as files. Each identifier is looked up once as a file, and one more at the
 /// end.
 #[tactic(auto, using(crate::proofs::Lists::behind_passed, crate::proofs::Lists::behind_stopped, crate::proofs::Lists::after_shorter))]
-pub fn pass(standings: &BTreeMap<u128, Standing>, rest: &mut Rest)
+pub fn pass(standings: &BTreeMap<u128, Standing>, rest: &mut Listed)
     ensures { rest.new ≡ behind (is_known standings.now) rest.old }
 {
     while starts_with_file(standings, rest) {
@@ -18,7 +18,7 @@ pub fn pass(standings: &BTreeMap<u128, Standing>, rest: &mut Rest)
     }
 }
 
-fn starts_with_file(standings: &BTreeMap<u128, Standing>, rest: &Rest) -> bool
+fn starts_with_file(standings: &BTreeMap<u128, Standing>, rest: &Listed) -> bool
     ensures { result ≡ starts (is_known standings.now) rest.now }
 {
     match rest.first() {

@@ -5,6 +5,12 @@ use snapshot_hub::{Look, Naming};
 use std::alloc::Global;
 use std::sync::atomic::{AtomicBool, Ordering};
 use std::sync::{Arc, Wait};
+use std::thread::sleep;
+use std::time::{Clock, Duration};
+
+/// How many milliseconds a reader rests after a look that showed it nothing new. Readers that turn without rest take
+/// the processors from the receiver, which waits for a reader that is inside.
+const REST: u64 = 1;
 
 /// What a reader has beside its look: its number, from 1 on, the gate, and the flag that tells it to stop.
 #[derive(Drop)]
@@ -29,8 +35,9 @@ pub struct Stopped<H: Naming> {
     pub saw: Option<u32>,
 }
 
-impl<R: Wait + Copy, G: Gate, H: Naming> Reader<R, G, H> {
-    /// Looks until it is told to stop, and notes which number it is shown.
+impl<R: Wait + Clock + Copy, G: Gate, H: Naming> Reader<R, G, H> {
+    /// Looks until it is told to stop, and notes which number it is shown. It rests after a look that shows the number
+    /// that it noted before.
     pub fn read(self) -> Stopped<H> {
         let Reader { rt, pass, mut look } = self;
         let mut saw = None;
@@ -41,9 +48,13 @@ impl<R: Wait + Copy, G: Gate, H: Naming> Reader<R, G, H> {
                 break;
             }
             let glance = look.look();
-            saw = number_of(glance.instance());
+            let shown = number_of(glance.instance());
             look = glance.leave();
             looks = looks.saturating_add(1);
+            if shown == saw {
+                sleep(&rt, Duration::from_millis(REST));
+            }
+            saw = shown;
         }
         Stopped { look, saw }
     }

@@ -69,15 +69,12 @@ impl<R: Wait, H: Naming> Audience for Stage<R, H> {
     ghost shown = { λ s. s };
 
     fn show(&mut self, instance: &Instance) -> Result<(), AllocError> {
-        let copy = instance.copy()?;
-        self.numbers.push(copy.number)?;
-        match self.publisher.publish(&self.rt, copy) {
-            Ok(()) => Ok(()),
-            Err((_copy, error)) => {
-                self.numbers.pop();
-                Err(error)
-            }
+        self.numbers.push(instance.number)?;
+        let published = self.publisher.publish_copy(&self.rt, instance);
+        if published.is_err() {
+            self.numbers.pop();
         }
+        published
     }
 
     fn close(&mut self) {

@@ -75,13 +75,14 @@ impl<H: Naming> Publisher<H> {
         ensures err { OnErr result (self.new ≡ self.old) }
         ensures back { IfErr result (λ e. e.0 ≡ instance) }
     {
-        match self.append(rt, &instance) {
+        match self.publish_copy(rt, &instance) {
             Ok(()) => Ok(()),
             Err(error) => Err((instance, error)),
         }
     }
 
-    fn append<R: Wait>(&mut self, rt: &R, instance: &Instance) -> Result<(), AllocError>
+    /// Does what `publish` does with a copy of the instance, which all who have it share.
+    pub fn publish_copy<R: Wait>(&mut self, rt: &R, instance: &Instance) -> Result<(), AllocError>
         requires number { MayFollow self.old instance.now }
         requires room { length self.old < 2 ^ 32 - 1 }
         ensures ok { OnOk result (self.new ≡ self.old ++ instance.now ∷ []) }

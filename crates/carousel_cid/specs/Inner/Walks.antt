@@ -1,8 +1,6 @@
 -- The stages of a walk over a list of identifiers.
-use Rattle.std.specs.Prelude.{◌≡◌, ℕ, ◌==◌, nat_le, if◌then◌else◌, List, [], ◌∷◌, ◌++◌, length, drop}
+use Rattle.std.specs.Prelude.{ℕ, ◌==◌, nat_le, if◌then◌else◌, List, [], ◌∷◌, ◌++◌, length, drop}
 use Rattle.std.specs.List.{list_any, slice_split}
-use Rattle.std.specs.Ordering.{nat_cmp}
-use Rattle.std.specs.BTreeSet.{BTreeSet, contains}
 use Rattle.meta_text.specs.Text.{is_empty}
 use Rattle.carousel_cid.specs.IdentifierList.{comma}
 use Rattle.carousel_cid.specs.Inner.Listing.{is_comma}
@@ -18,10 +16,6 @@ added kept toi = if list_any (λ u. u == toi) kept then kept else kept ++ toi �
 abbrev pub added_all : List ℕ → List ℕ → List ℕ
 added_all kept [] = kept
 added_all kept (toi ∷ tois) = added_all (added kept toi) tois
-
--- the keys are the identifiers of the list
-abbrev pub AreKeysOf : BTreeSet ℕ → List ℕ → Type 0
-AreKeysOf keys list = (toi : ℕ) → contains nat_cmp keys toi ≡ list_any (λ u. u == toi) list
 
 -- a list with a text more, behind a comma where it isn't the first
 abbrev pub with_text : List ℕ → List ℕ → List ℕ

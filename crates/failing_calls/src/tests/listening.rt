@@ -10,11 +10,12 @@ use std::process::Abort;
 use std::sync::{Arc, Wait};
 use std::test::Fail;
 use std::thread::Threads;
+use std::time::Clock;
 use worked_runs::logs::log_of_copies;
 use worked_runs::playing::{REPORT_OF_1, labels_of};
 
 /// Listens to this log with one reader.
-fn listen<R: Threads + Wait + Copy + Send + 'static>(
+fn listen<R: Threads + Wait + Clock + Copy + Send + 'static>(
     rt: &R,
     alloc: Global,
     log: &[u8],
@@ -35,7 +36,7 @@ fn listen<R: Threads + Wait + Copy + Send + 'static>(
 }
 
 /// A listening to the log of an empty instance leaves this.
-fn listens<R: Threads + Wait + Abort + Copy + Send + 'static>(
+fn listens<R: Threads + Wait + Abort + Clock + Copy + Send + 'static>(
     rt: &R,
     alloc: Global,
     failing: Failing,

@@ -2,10 +2,10 @@
 
 use super::same::same;
 use super::vectors::{FILE_WITH_TYPE, HI_FILE_OBJECT, LIST_OF_THREE, LIST_ONE_DESCRIPTOR};
-use carousel_cid::{Cause, Kind, classify, kind_of, write_descriptor, write_file};
+use carousel_cid::{Cause, Identifiers, Kind, classify, kind_of, write_descriptor, write_file};
 use compound_object::Compound;
 use meta_text::{Fields, Label, is_value};
-use std::alloc::Global;
+use std::alloc::{AllocError, Global};
 use std::test::Fail;
 
 /// What an object with this metadata and this body is.
@@ -54,14 +54,24 @@ fn is_type(kind: &Option<Label>, text: Option<&str>) -> bool {
     }
 }
 
-/// It is the descriptor with these parts.
-pub fn is_descriptor(kind: &Kind, number: u32, listed: &[u128]) -> bool {
+/// The number of a descriptor and what it lists, written out; none where it is no descriptor.
+pub fn descriptor(alloc: Global, kind: &Kind) -> Result<Option<(u32, Identifiers)>, AllocError> {
     match kind {
-        Kind::Descriptor {
-            number: found,
-            listed: tois,
-        } => *found == number && tois.as_slice() == listed,
-        _ => false,
+        Kind::Descriptor { number, listed } => Ok(Some((*number, listed.write_out(alloc)?))),
+        _ => Ok(None),
+    }
+}
+
+/// It is the descriptor with these parts.
+pub fn is_descriptor(
+    alloc: Global,
+    kind: &Kind,
+    number: u32,
+    listed: &[u128],
+) -> Result<bool, AllocError> {
+    match descriptor(alloc, kind)? {
+        Some((found, tois)) => Ok(found == number && tois.as_slice() == listed),
+        None => Ok(false),
     }
 }
 
@@ -70,7 +80,12 @@ fn vectors_are_read(rt: HostRuntime) -> Result<(), Fail> {
     let file = kind_of(rt.alloc(), HI_FILE_OBJECT)?;
     same(&rt, &is_file(&file, "a", None, b"hi"), &true, 1);
     let descriptor = kind_of(rt.alloc(), LIST_ONE_DESCRIPTOR)?;
-    same(&rt, &is_descriptor(&descriptor, 1, &[1]), &true, 2);
+    same(
+        &rt,
+        &is_descriptor(rt.alloc(), &descriptor, 1, &[1])?,
+        &true,
+        2,
+    );
     Ok(())
 }
 
@@ -151,7 +166,7 @@ fn descriptors_that_are_read(rt: HostRuntime) -> Result<(), Fail> {
         let descriptor = kind_with(rt.alloc(), true, metadata, b"2,1")?;
         same(
             &rt,
-            &is_descriptor(&descriptor, number, &[2, 1]),
+            &is_descriptor(rt.alloc(), &descriptor, number, &[2, 1])?,
             &true,
             row,
         );

@@ -1,6 +1,6 @@
 //! The lists of descriptors.
 
-use super::kinds::{cause, is_descriptor, kind_with};
+use super::kinds::{cause, descriptor, is_descriptor, kind_with};
 use super::same::same;
 use carousel_cid::{Cause, Kind};
 use std::alloc::{AllocError, Global};
@@ -15,7 +15,7 @@ const NUMBER: &[u8; 16] = b"Fcast-CID-ID: 7\n";
 
 #[test]
 fn lists_that_are_read(rt: HostRuntime) -> Result<(), Fail> {
-    let cases: [(u32, &[u8], &[u128]); 12] = [
+    let cases: [(u32, &[u8], &[u128]); 16] = [
         (1, b"", &[]),
         (2, b"\n", &[]),
         (3, b"\r\n", &[]),
@@ -43,10 +43,23 @@ fn lists_that_are_read(rt: HostRuntime) -> Result<(), Fail> {
                 5192296858534827628530496329220095,
             ],
         ),
+        (
+            13,
+            b"3-6,1-9,5-12",
+            &[3, 4, 5, 6, 1, 2, 7, 8, 9, 10, 11, 12],
+        ),
+        (14, b"1,3,5,1-6,0-7", &[1, 3, 5, 2, 4, 6, 0, 7]),
+        (15, b"4,5,6,1-3,2-5,6-7", &[4, 5, 6, 1, 2, 3, 7]),
+        (16, b"0,0-1,3-4,2-5", &[0, 1, 3, 4, 2, 5]),
     ];
     for (row, body, listed) in cases {
         let kind = kind_with(rt.alloc(), true, NUMBER, body)?;
-        same(&rt, &is_descriptor(&kind, 7, listed), &true, row);
+        same(
+            &rt,
+            &is_descriptor(rt.alloc(), &kind, 7, listed)?,
+            &true,
+            row,
+        );
     }
     Ok(())
 }
@@ -107,10 +120,10 @@ fn numbers(alloc: Global, count: u32) -> Result<Vec<u8>, AllocError> {
 }
 
 /// How many identifiers are listed; none where it is no descriptor.
-fn listed(kind: &Kind) -> Option<usize> {
-    match kind {
-        Kind::Descriptor { listed, .. } => Some(listed.as_slice().len()),
-        _ => None,
+fn listed(alloc: Global, kind: &Kind) -> Result<Option<usize>, AllocError> {
+    match descriptor(alloc, kind)? {
+        Some((_number, listed)) => Ok(Some(listed.as_slice().len())),
+        None => Ok(None),
     }
 }
 
@@ -123,7 +136,7 @@ fn check_count(
     row: u32,
 ) -> Result<(), Fail> {
     let kind = kind_with(alloc, true, NUMBER, body)?;
-    same(rt, &listed(&kind), &Some(count), row);
+    same(rt, &listed(alloc, &kind)?, &Some(count), row);
     Ok(())
 }
 

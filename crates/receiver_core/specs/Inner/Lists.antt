@@ -1,18 +1,11 @@
 -- The front of a list, and each of it.
-use Rattle.std.specs.Prelude.{ℕ, Bool, false, if◌then◌else◌, List, [], ◌∷◌, Option, Some, None}
+use Rattle.std.specs.Prelude.{ℕ, Bool, false, if◌then◌else◌, List, [], ◌∷◌}
+pub use Rattle.carousel_cid.specs.Fronts.{first_of, after_first}
 
 -- each of a list
 abbrev pub Each : {A : Type 0} → (A → Type 0) → List A → Type 0
 Each P [] = Unit {0}
 Each P (x ∷ xs) = P x × Each P xs
-
-abbrev pub first_of : List ℕ → Option ℕ
-first_of [] = None
-first_of (t ∷ ts) = Some t
-
-abbrev pub after_first : List ℕ → List ℕ
-after_first [] = []
-after_first (t ∷ ts) = ts
 
 -- the first of them passes
 abbrev pub starts : (ℕ → Bool) → List ℕ → Bool

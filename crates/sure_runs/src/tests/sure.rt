@@ -9,6 +9,7 @@ use std::process::Abort;
 use std::sync::{Arc, Wait};
 use std::test::Fail;
 use std::thread::Threads;
+use std::time::Clock;
 use worked_runs::given::{named, short};
 use worked_runs::logs::EMPTY_INSTANCE_DATAGRAM;
 use worked_runs::packets::zero_packets;
@@ -135,7 +136,7 @@ fn other_commands(rt: HostRuntime) -> Result<(), Fail> {
 }
 
 /// A listening of these words ends with this status.
-fn listens<R: Threads + Wait + Abort + Copy + Send + 'static>(
+fn listens<R: Threads + Wait + Abort + Clock + Copy + Send + 'static>(
     rt: &R,
     alloc: Global,
     words: &[&str],

@@ -7,6 +7,7 @@ use std::process::Abort;
 use std::sync::{Arc, Wait};
 use std::test::Fail;
 use std::thread::Threads;
+use std::time::Clock;
 use worked_runs::logs::log_of_copies;
 use worked_runs::playing::{MemEdge, NONE, REPORT_OF_1, edge_of, labels_of};
 
@@ -18,7 +19,7 @@ struct Listened {
 }
 
 /// Runs these words over this log, with a gate that is always open.
-fn listen<R: Threads + Wait + Copy + Send + 'static>(
+fn listen<R: Threads + Wait + Clock + Copy + Send + 'static>(
     rt: &R,
     alloc: Global,
     words: &[&str],
@@ -40,7 +41,7 @@ fn listen<R: Threads + Wait + Copy + Send + 'static>(
 }
 
 /// Words over a log end with this status and this text.
-fn ends_with<R: Threads + Wait + Abort + Copy + Send + 'static>(
+fn ends_with<R: Threads + Wait + Abort + Clock + Copy + Send + 'static>(
     rt: &R,
     alloc: Global,
     words: &[&str],
@@ -76,7 +77,7 @@ fn is_of_two(text: &[u8]) -> bool {
 }
 
 /// Words over a log have two readers look, and install instance 1.
-fn has_two_look<R: Threads + Wait + Abort + Copy + Send + 'static>(
+fn has_two_look<R: Threads + Wait + Abort + Clock + Copy + Send + 'static>(
     rt: &R,
     alloc: Global,
     words: &[&str],

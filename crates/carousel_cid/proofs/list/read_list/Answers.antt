@@ -1,6 +1,7 @@
 use Rattle.std.proofs.Common.{rules, ◌≡◌, ◌+◌, [], ◌∷◌, length, sym, ap, subst, ◌∙◌, arith}
 use Rattle.std.specs.Prelude.{IfSome}
 use Rattle.carousel_cid.specs.Repeats.{first_places}
+use Rattle.carousel_cid.specs.IdentifierList.{identifiers_of}
 use Rattle.carousel_cid.specs.Inner.Listing.{bad_place, count_in, identifiers_in}
 use Rattle.carousel_cid.specs.Inner.Walks.{texts_from, added_all}
 use Rattle.carousel_cid.proofs.Texts.{texts_none, texts_all, from_past, bad_at, count_on, kept_walk_on, walked}
@@ -19,7 +20,7 @@ returns-then-is_empty-clause-sound c =
 pub returns-then-is_empty-clause-listed : goal.returns-then-is_empty-clause-listed
 returns-then-is_empty-clause-listed c =
     let none = texts_none c.args.body.now c.without_line_end-list.result.now c.without_line_end-list.ensures (search rules) in
-    c.new.ensures.items ∙ sym (ap (λ ts. first_places (identifiers_in ts)) none)
+    c.new-then-is_empty.ensures ∙ ap identifiers_of c.new.ensures.items ∙ sym (ap (λ ts. first_places (identifiers_in ts)) none)
 
 -- ---- the walk
 
@@ -47,7 +48,8 @@ loop-at-preserved c =
       most = search rules;
       all = kept_walk_on c.loop-at.kept c.kept_with-kept.result text c.in-Some.entry (texts_from at list) rest
           (added_all [] (identifiers_in (texts_from 0 list))) first c.in-Some.ensures.entry c.kept_with-kept.ensures.all c.loop-at.invariant.all;
-      keys = c.kept_with-kept.ensures.keys;
+      runs = c.kept_with-kept.ensures.runs;
+      seen = c.kept_with-kept.ensures.seen;
       place = omega (arith, c.text_at-text.ensures.within);
     }
 
@@ -76,9 +78,10 @@ returns-in-Some-kept-clause-listed c =
     let list = c.without_line_end-list.result.now in
     let at = c.loop-at.at in
     let kept = c.in-Some-kept.kept in
-    let whole = subst (λ o. IfSome o (λ k. added_all k.listed.items (identifiers_in (texts_from at list)) ≡ added_all [] (identifiers_in (texts_from 0 list))))
+    let whole = subst (λ o. IfSome o (λ k. added_all (identifiers_of k.runs.items) (identifiers_in (texts_from at list)) ≡ added_all [] (identifiers_in (texts_from 0 list))))
     c.in-Some-kept.is c.loop-at.invariant.all in
     let all = texts_all c.args.body.now list c.without_line_end-list.ensures (search rules) in
     let past = from_past at list (omega arith) in
-    sym (ap (λ ts. added_all kept.listed.items (identifiers_in ts)) past) ∙ whole
+    c.new-in-Some-kept.ensures
+    ∙ sym (ap (λ ts. added_all (identifiers_of kept.runs.items) (identifiers_in ts)) past) ∙ whole
     ∙ kept_first (identifiers_in (texts_from 0 list)) ∙ sym (ap (λ ts. first_places (identifiers_in ts)) all)

@@ -1,6 +1,6 @@
 use Rattle.std.proofs.Common.{◌+◌, ◌-◌, ◌≡◌, arith, length}
-use Rattle.receiver_core.proofs.Runs.{first_at_end}
-use Rattle.receiver_core.proofs.rest.front_of.Goals as goal
+use Rattle.carousel_cid.proofs.Runs.{first_at_end}
+use Rattle.carousel_cid.proofs.listed.front_of.Goals as goal
 
 pub returns-in-len1-up : goal.returns-in-len1-up
 returns-in-len1-up c =
