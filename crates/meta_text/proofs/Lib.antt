@@ -10,3 +10,4 @@ pub mod Public
 pub mod PairSpans
 pub mod Sound
 pub mod LineLaws
+pub mod Spelled
