@@ -181,8 +181,8 @@ judged o = elim (cases_lt (length o) 8) [
 
 -- ---- both ways
 
-pub first_cause_told : (o : List ℕ) (cause : CompoundFault) → (reading o ≡ Err cause) ↔ IsFirst o cause
-first_cause_told o cause = (
+pub first_fault_of_object : (o : List ℕ) (cause : CompoundFault) → (reading o ≡ Err cause) ↔ IsFirst o cause
+first_fault_of_object o cause = (
   λ told. elim (judged o) [
     | inl found ↦
         let other : reading o ≡ Err found.0 = refused_first o found.0 found.1.is found.1.first in

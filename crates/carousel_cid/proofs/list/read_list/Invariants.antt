@@ -1,7 +1,7 @@
 -- the walk from here on finds what the whole walk finds, and what is kept, with what is to come, is the whole list
 use Rattle.std.proofs.Common.{◌≡◌, ◌+◌, ◌-◌, ◌≤◌, [], length, min}
 use Rattle.std.specs.Prelude.{IfSome}
-use Rattle.carousel_cid.specs.Inner.Listing.{bad_place, count_in, identifiers_in}
+use Rattle.carousel_cid.specs.Listing.{bad_place, count_in, identifiers_in}
 use Rattle.carousel_cid.specs.Inner.Walks.{texts_from, added_all, AreKeysOf}
 use Rattle.carousel_cid.proofs.list.read_list.Given as goal
 
