@@ -53,8 +53,9 @@ fn run_words<R: Threads + Wait + Copy + Send + 'static>(
 ) -> u8 {
     match asked_settings(&rt) {
         // Only a buffer's memory is asked for.
-        Ok(settings) => run_outside(threads, rt, settings, words)
-            .unwrap_or(number(Err(Fault::Memory))),
+        Ok(settings) => run_outside(threads, rt, settings, words).unwrap_or(number(Err(
+            Fault::Memory,
+        ))),
         Err(SettingFault::Rate) => {
             tell(&rt, "FCAST_RATE is no number of bytes a second", &None);
             number(Ok(Status::NoCommand))

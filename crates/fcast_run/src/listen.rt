@@ -12,11 +12,11 @@ ghost use Rattle.run_tasks.specs.Runs.{Completes};
 ghost use Rattle.watch_list.specs.Hearing.{Heard};
 
 use crate::beside::receive_beside;
-use run_tasks::Edge;
 use edge_io::{Datagrams, Emit, Files, Shelf, Text};
 use meta_text::Label;
 use run_base::{Fault, Status, number, tell_usage};
 use run_readers::Gate;
+use run_tasks::Edge;
 use run_words::read_listening;
 use snapshot_hub::Hub;
 use std::alloc::Global;
