@@ -37,17 +37,21 @@ fresh; cp -r "$room/many/old" installed
 began=$(date +%s%N); "$program" replay <"$room/many/new.log" >out 2>err; taken=$((($(date +%s%N) - began) / 1000))
 is_new many || says "a run that isn't stopped" "$(head -c 300 difference)"
 olds=0 news=0 neither=0
+signals=(KILL TERM INT QUIT) stops=(0 0 0 0)
 for ((round = 0; round < 200; round++)); do
   fresh; cp -r "$room/many/old" installed
-  "$program" replay <"$room/many/new.log" >out 2>err &
+  # What a shell starts in the background ignores INT and QUIT, unless `env` undoes that.
+  env --default-signal=INT,QUIT "$program" replay <"$room/many/new.log" >out 2>err &
   microseconds=$((taken * RANDOM / 32768))
   sleep "$(printf '%d.%06d' $((microseconds / 1000000)) $((microseconds % 1000000)))"
-  case $((round % 3)) in 0) kill -KILL $! ;; 1) kill -TERM $! ;; 2) kill -QUIT $! ;; esac 2>/dev/null
+  kill -"${signals[round % 4]}" $! 2>/dev/null
   wait $! 2>/dev/null
+  [ $? -lt 128 ] || stops[round % 4]=$((stops[round % 4] + 1))
   if [ ! -e installed ]; then neither=$((neither + 1)); elif is_old many; then olds=$((olds + 1)); else news=$((news + 1)); fi
   recovers "a signal" many
 done 2>/dev/null
-echo "ok     signals at 200 times within $((taken / 1000)) ms: $olds old, $news new, $neither neither"
+for ((i = 0; i < 4; i++)); do [ "${stops[i]}" -gt 5 ] || says "a signal" "only ${stops[i]} of 50 runs were stopped by ${signals[i]}"; done
+echo "ok     signals (${signals[*]}) at 200 times within $((taken / 1000)) ms: $olds old, $news new, $neither neither"
 
 # A stop before each system call that names a file, writes, syncs or closes.
 fresh; cp -r "$room/few/old" installed

@@ -153,6 +153,11 @@ holds "place at a file" site/a/b "body 1"; holds "place at a file" site/a/c mine
 instance a; refused "place in installed" fcast-place installed; mkdir installed/x; refused "place below installed" fcast-place ./installed/x/
 instance ok installed/b; refused "place at installed by a location" fcast-place .; absent "place at installed by a location" ok installed/b
 instance ok installed; refused "place at the folder installed" fcast-place .; absent "place at the folder installed" ok
+# A run empties the folder in which it writes the next instance, as it does the one that is installed.
+instance ok installed.part/b; refused "place at installed.part by a location" fcast-place .; absent "place at installed.part by a location" ok installed.part
+instance ok installed.part; refused "place at installed.part" fcast-place .; absent "place at installed.part" ok installed.part
+instance a; mkdir installed.part; refused "place in installed.part" fcast-place installed.part; absent "place in installed.part" installed.part/a
+instance ok installed.part.x/b installed.parts; try "place beside installed.part" 0 fcast-place .; holds "place beside installed.part" installed.parts "body 3"
 instance installed/b; try "place in another installed" 0 fcast-place site
 instance a; refused "place in no folder" fcast-place nowhere; refused "place in a file" fcast-place installed/1; try "place nowhere" 1 fcast-place
 try "place of too much" 1 fcast-place site site; try "place of no name" 1 fcast-place ''

@@ -12,7 +12,7 @@ use Rattle.carousel_cid.specs.declared.kind.Kind.TheVariants.{File, Unusable}
 use Rattle.carousel_cid.specs.declared.kind.Cause.{Cause}
 use Rattle.carousel_cid.specs.declared.kind.Cause.TheVariants.{KnownTwice, LengthDiffers, NoLocation, BadList, ListTooLong}
 use Rattle.carousel_cid.specs.KnownFields.{location_name, type_name, length_name, is_known_twice, value_of}
-use Rattle.carousel_cid.specs.Inner.Listing.{texts_in, bad_place, count_in}
+use Rattle.carousel_cid.specs.Listing.{texts_in, bad_place, count_in}
 use Rattle.carousel_cid.specs.Causes.{differs_from, is_nothing, list_fault, descriptor_fault, file_fault, cause_of}
 use Rattle.carousel_cid.specs.Kinds.{usable, kind_unless, kind_of_parts, file_in, descriptor_in, IsUsable}
 

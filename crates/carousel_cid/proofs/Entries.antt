@@ -3,7 +3,7 @@ use Rattle.std.proofs.Common.{◌≡◌, ℕ, ◌+◌, ◌<◌, List, Some, None
 use Rattle.std.specs.Prelude.{position}
 use Rattle.std.specs.List.{position_or_len}
 use Rattle.meta_text.proofs.Public.{found_at, none_at, any_from_place, any_without_place}
-use Rattle.carousel_cid.specs.Inner.Listing.{is_dash, identifier_in, one_entry, range_entry, entry_in}
+use Rattle.carousel_cid.specs.Listing.{is_dash, identifier_in, one_entry, range_entry, entry_in}
 
 pub entry_one : (text : List ℕ) → position is_dash text ≡ None → entry_in text ≡ one_entry (identifier_in text)
 unfolding entry_in

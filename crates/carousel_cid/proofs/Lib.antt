@@ -14,5 +14,6 @@ pub mod Lists
 pub mod ReadKinds
 pub mod WrittenKinds
 pub mod BadLists
+pub mod FirstCauses
 pub mod ListsDiffer
 pub mod Public

@@ -12,7 +12,7 @@ use Rattle.meta_text.specs.Lines.{after_return}
 use Rattle.meta_text.proofs.Public.{all_reversed}
 use Rattle.carousel_cid.specs.declared.entry.Entry.{Entry}
 use Rattle.carousel_cid.specs.IdentifierList.{comma, SpellEntries, IsLineEnd, SpellsList}
-use Rattle.carousel_cid.specs.Inner.Listing.{is_comma, after_line_end, without_line_end, cut_at_commas, texts_in, bad_place}
+use Rattle.carousel_cid.specs.Listing.{is_comma, after_line_end, without_line_end, cut_at_commas, texts_in, bad_place}
 use Rattle.carousel_cid.proofs.Joins.{join_some, not_empty}
 use Rattle.carousel_cid.proofs.Spellings.{is_entry_byte, entries_from, entry_bytes}
 
@@ -58,7 +58,7 @@ entry_to_list (b ∷ bs) all =
     let both = and_parts (is_entry_byte b) (list_all is_entry_byte bs) all in
     rw ((entry_byte b both.0).0, entry_to_list bs both.1) refl
 
-no_comma : (bs : List ℕ) → list_all is_entry_byte bs ≡ true → All (λ b. is_comma b ≡ false) bs
+pub no_comma : (bs : List ℕ) → list_all is_entry_byte bs ≡ true → All (λ b. is_comma b ≡ false) bs
 no_comma bs all = All-from_get_or (λ b. is_comma b ≡ false) bs 0 (at bs all)
   where
     at : (cs : List ℕ) → list_all is_entry_byte cs ≡ true → (i : ℕ) → i < length cs → is_comma (get_or cs i 0) ≡ false

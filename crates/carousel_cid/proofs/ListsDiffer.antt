@@ -8,7 +8,7 @@ use Rattle.carousel_cid.specs.declared.kind.Kind.TheVariants.{Descriptor}
 use Rattle.carousel_cid.specs.declared.kind.Cause.{Cause}
 use Rattle.carousel_cid.specs.Causes.{cause_of}
 use Rattle.carousel_cid.specs.Repeats.{are_different, first_places}
-use Rattle.carousel_cid.specs.Inner.Listing.{texts_in, identifiers_in}
+use Rattle.carousel_cid.specs.Listing.{texts_in, identifiers_in}
 use Rattle.carousel_cid.specs.Kinds.{kind_of_object, kind_of_parts, kind_read, kind_unless, usable}
 use Rattle.carousel_cid.proofs.Kept.{first_places_differ}
 

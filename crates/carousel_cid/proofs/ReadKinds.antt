@@ -24,7 +24,7 @@ use Rattle.carousel_cid.specs.IdentifierList.{count_of, identifiers_of}
 use Rattle.carousel_cid.specs.Repeats.{first_places, are_different}
 use Rattle.carousel_cid.specs.File.{ReadsFile}
 use Rattle.carousel_cid.specs.Descriptor.{ReadsDescriptor}
-use Rattle.carousel_cid.specs.Inner.Listing.{texts_in, bad_place, count_in, identifiers_in}
+use Rattle.carousel_cid.specs.Listing.{texts_in, bad_place, count_in, identifiers_in}
 use Rattle.carousel_cid.specs.Causes.{differs_from, is_nothing, number_in, list_fault, descriptor_fault, file_fault, cause_of}
 use Rattle.carousel_cid.specs.Kinds.{usable, kind_unless, kind_of_parts, kind_read, kind_of_object, file_in, descriptor_in}
 use Rattle.carousel_cid.proofs.Numbers.{number_from, number_to, writes_from, writes_to}
@@ -43,7 +43,7 @@ not_twice : (fields : List Pair) (name : List ℕ) → length (values_of name fi
 unfolding is_twice
 not_twice fields name few = le-ltb 1 (length (values_of name fields)) few
 
-known_from : (fields : List Pair) → is_known_twice fields ≡ false → AreKnownOnce fields
+pub known_from : (fields : List Pair) → is_known_twice fields ≡ false → AreKnownOnce fields
 unfolding is_known_twice
 known_from fields once =
     let twice = is_twice fields in
@@ -60,7 +60,7 @@ known_from fields once =
       ),
     )
 
-known_to : (fields : List Pair) → AreKnownOnce fields → is_known_twice fields ≡ false
+pub known_to : (fields : List Pair) → AreKnownOnce fields → is_known_twice fields ≡ false
 unfolding is_known_twice
 known_to fields once =
     rw (
@@ -78,11 +78,11 @@ one_of [] v is = absurd (let other : None ≡ Some v = is in cc)
 one_of (u ∷ []) v is = ap (λ x. x ∷ []) (let same : u ≡ v = cc in same)
 one_of (u ∷ w ∷ us) v is = absurd (let other : None ≡ Some v = is in cc)
 
-value_is : (name : List ℕ) (fields : List Pair) (v : List ℕ) → value_of name fields ≡ Some v → values_of name fields ≡ v ∷ []
+pub value_is : (name : List ℕ) (fields : List Pair) (v : List ℕ) → value_of name fields ≡ Some v → values_of name fields ≡ v ∷ []
 unfolding value_of
 value_is name fields v is = one_of (values_of name fields) v is
 
-value_to : (name : List ℕ) (fields : List Pair) (v : List ℕ) → values_of name fields ≡ v ∷ [] → value_of name fields ≡ Some v
+pub value_to : (name : List ℕ) (fields : List Pair) (v : List ℕ) → values_of name fields ≡ v ∷ [] → value_of name fields ≡ Some v
 unfolding value_of
 value_to name fields v is = ap only_one is
 
@@ -311,7 +311,17 @@ descriptor_read object number listed d =
 pub listed_differ : (object : List ℕ) (number : ℕ) (listed : List ℕ) → ReadsDescriptor object number listed → are_different listed ≡ true
 listed_differ object number listed d = ap are_different d.in_order ∙ first_places_differ (identifiers_of d.entries)
 
--- ---- both ways, of an answer that is the kind
+-- ---- both ways
+
+pub file_where_read : (object location : List ℕ) (kind : Option (List ℕ)) (body : List ℕ) → AreBytes object
+    → (kind_of_object object ≡ File location kind body) ↔ ReadsFile object location kind body
+file_where_read object location kind body bytes = (reads_file object location kind body bytes, file_read object location kind body)
+
+pub descriptor_where_read : (object : List ℕ) (number : ℕ) (listed : List ℕ) → AreBytes object
+    → (kind_of_object object ≡ Descriptor number listed) ↔ ReadsDescriptor object number listed
+descriptor_where_read object number listed bytes = (reads_descriptor object number listed bytes, descriptor_read object number listed)
+
+-- ---- of an answer that is the kind
 
 pub file_exactly : (object : List ℕ) (r : Result Kind AllocError) → AreBytes object → IfOk r (λ k. k ≡ kind_of_object object)
     → (location : List ℕ) (kind : Option (List ℕ)) (body : List ℕ) → IfOk r (λ k. (k ≡ File location kind body) ↔ ReadsFile object location kind body)

@@ -12,7 +12,7 @@ use Rattle.std.proofs.Math.Seq.{take-append_seam, drop-append-add}
 use Rattle.meta_text.proofs.Public.{any_without_place}
 use Rattle.carousel_cid.specs.declared.entry.Entry.{Entry}
 use Rattle.carousel_cid.specs.IdentifierList.{dash, IsIdentifier, SpellsOne, SpellsRange, SpellsEntry, SpellEntries, size_of, count_of, identifiers_of}
-use Rattle.carousel_cid.specs.Inner.Listing.{is_dash, identifier_in, one_entry, range_entry, entry_in, bad_after, bad_place, size_in, count_in, range_in, identifiers_in}
+use Rattle.carousel_cid.specs.Listing.{is_dash, identifier_in, one_entry, range_entry, entry_in, bad_after, bad_place, size_in, count_in, range_in, identifiers_in}
 use Rattle.carousel_cid.proofs.Numbers.{number_from, number_to, digits_of_number}
 
 -- ---- the bytes of a number, an entry and a list

@@ -11,13 +11,13 @@ use Rattle.meta_text.proofs.Public.{found_at, none_at, any_without_place}
 use Rattle.carousel_cid.specs.declared.entry.Entry.{Entry}
 use Rattle.carousel_cid.specs.declared.list.Kept.{Kept}
 use Rattle.carousel_cid.specs.IdentifierList.{size_of, identifiers_of}
-use Rattle.carousel_cid.specs.Inner.Listing.{is_comma, without_line_end, cut_at_commas, texts_in, entry_in, bad_place, size_in, count_in, identifiers_in, range_in}
+use Rattle.carousel_cid.specs.Listing.{is_comma, without_line_end, cut_at_commas, texts_in, entry_in, bad_place, size_in, count_in, identifiers_in, range_in}
 use Rattle.carousel_cid.specs.Inner.Walks.{texts_from, added_all}
 use Rattle.carousel_cid.proofs.Kept.{added_all-append}
 
 -- ---- one text after another
 
-none_passes : {X : Type 0} (p : X → Bool) (xs : List X) (d : X) → list_any p xs ≡ false → (i : ℕ) → i < length xs → p (get_or xs i d) ≡ false
+pub none_passes : {X : Type 0} (p : X → Bool) (xs : List X) (d : X) → list_any p xs ≡ false → (i : ℕ) → i < length xs → p (get_or xs i d) ≡ false
 none_passes p [] d none i less = absurd (omega arith)
 none_passes p (x ∷ xs) d none zero less = (or_parts (p x) (list_any p xs) none).0
 none_passes p (x ∷ xs) d none (suc i) less = none_passes p xs d (or_parts (p x) (list_any p xs) none).1 i (omega arith)

@@ -9,7 +9,7 @@ use Rattle.carousel_cid.specs.declared.kind.Cause.TheVariants.{KnownTwice, Lengt
 use Rattle.carousel_cid.specs.Number.{writes_number, number_below}
 use Rattle.carousel_cid.specs.KnownFields.{location_name, length_name, number_name, is_known_twice, value_of}
 use Rattle.carousel_cid.specs.Descriptor.{most_listed}
-use Rattle.carousel_cid.specs.Inner.Listing.{texts_in, bad_place, count_in}
+use Rattle.carousel_cid.specs.Listing.{texts_in, bad_place, count_in}
 
 -- a length that isn't this one is stated
 abbrev pub differs_from : ℕ → Option (List ℕ) → Bool

@@ -11,7 +11,7 @@ use Rattle.carousel_cid.specs.declared.kind.Cause.TheVariants.{Compound}
 use Rattle.carousel_cid.specs.KnownFields.{location_name, type_name, number_name, value_of}
 use Rattle.carousel_cid.specs.Causes.{cause_of, number_in}
 use Rattle.carousel_cid.specs.Repeats.{first_places}
-use Rattle.carousel_cid.specs.Inner.Listing.{texts_in, identifiers_in}
+use Rattle.carousel_cid.specs.Listing.{texts_in, identifiers_in}
 
 -- the values of an object in which nothing is wrong
 abbrev pub file_in : List Pair → List ℕ → Kind

@@ -3,10 +3,12 @@ pub mod KnownFields
 pub mod Fronts
 pub mod Repeats
 pub mod IdentifierList
+pub mod Listing
 pub mod BadEntry
 pub mod File
 pub mod Descriptor
 pub mod Causes
+pub mod FirstCause
 pub mod Kinds
 pub mod Instances
 pub mod Inner

@@ -2,7 +2,7 @@
 
 ghost use Rattle.std.specs.Prelude.{◌≡◌, ◌≤◌, ◌<◌, ◌^◌, IfSome};
 ghost use Rattle.std.specs.Option.{ForSome};
-ghost use Rattle.carousel_cid.specs.Inner.Listing as specs;
+ghost use Rattle.carousel_cid.specs.Listing as specs;
 
 use crate::number::number_below;
 use meta_text::place_of;
@@ -19,7 +19,7 @@ pub(crate) struct Entry {
 
 /// The entry that a text spells: a number, or two with a dash between them, the second not below the
 /// first.
-#[tactic(auto, unfolding(crate::specs::Inner::Listing::entry_in))]
+#[tactic(auto, unfolding(crate::specs::Listing::entry_in))]
 pub(crate) fn read_entry(text: &[u8]) -> Option<Entry>
     ensures entry { result ≡ specs.entry_in text.now }
     ensures fits { ForSome result (λ entry. entry.last < 2 ^ 112) }

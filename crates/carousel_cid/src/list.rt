@@ -2,7 +2,7 @@
 ghost use Rattle.std.specs.Prelude.{◌≡◌, ◌+◌, ◌≤◌, ◌<◌, ◌^◌, ◌∷◌, length, min, Some, OnOk, IfOk, IfErr, IfSome, MatchOption};
 ghost use Rattle.std.specs.List.{AllByRecursion};
 ghost use Rattle.carousel_cid.specs.declared.entry.Entry.{Entry};
-ghost use Rattle.carousel_cid.specs.Inner.Listing as specs;
+ghost use Rattle.carousel_cid.specs.Listing as specs;
 ghost use Rattle.carousel_cid.specs.IdentifierList.{size_of, identifiers_of};
 ghost use Rattle.carousel_cid.specs.Causes.{list_fault};
 ghost use Rattle.carousel_cid.specs.Repeats.{first_places};

@@ -9,7 +9,7 @@ ghost use Rattle.carousel_cid.specs.Descriptor.{ReadsDescriptor};
 ghost use Rattle.carousel_cid.specs.Repeats.{are_different, first_places};
 ghost use Rattle.carousel_cid.specs.KnownFields as names;
 ghost use Rattle.carousel_cid.specs.KnownFields.{is_known_twice, value_of};
-ghost use Rattle.carousel_cid.specs.Inner.Listing.{texts_in, identifiers_in};
+ghost use Rattle.carousel_cid.specs.Listing.{texts_in, identifiers_in};
 ghost use Rattle.carousel_cid.specs.Causes as causes;
 ghost use Rattle.carousel_cid.specs.Kinds as kinds;
 ghost use Rattle.carousel_cid.specs.Kinds.{kind_of_parts, kind_of_object, kind_unless, file_in, descriptor_in, code_of, IsUsable};

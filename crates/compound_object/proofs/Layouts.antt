@@ -7,7 +7,7 @@ use Rattle.std.proofs.lemmas.List.{take_at, drop_at, length-append, length-repli
 use Rattle.byteorder.specs.Endian.{big_bytes}
 use Rattle.byteorder.specs.Numbers.{big_number-reads_back}
 use Rattle.meta_text.specs.Fields.{Pair, ArePairs, written}
-use Rattle.meta_text.proofs.Public.{reading-written}
+use Rattle.meta_text.proofs.Public.{reading-written, read_where_spelled}
 use Rattle.meta_text.specs.Reading as fields
 use Rattle.compound_object.specs.declared.fault.CompoundFault.{CompoundFault}
 use Rattle.compound_object.specs.Checksum.{checksum}
@@ -154,7 +154,7 @@ reading-spelled object descriptor pairs body s =
     ap reading s.joined
     ∙ reading_sound o (not_refused o (layout_passes s.first s.sum s.metadata body s.version s.fits s.checked))
     ∙ ap (λ (m : List ℕ). with_fields o (fields.reading m)) (metadata-layout s.first s.sum s.metadata body s.fits)
-    ∙ ap (with_fields o) s.says
+    ∙ ap (with_fields o) ((read_where_spelled s.metadata pairs).1 s.says)
     ∙ ap (made (is_descriptor o)) (body-layout s.first s.sum s.metadata body s.fits)
     ∙ ap (λ d. made d body) (sym s.kind)
 
@@ -172,7 +172,7 @@ SpellsObject-said descriptor pairs body says small = by descriptor
       joined = refl;
       version = refl;
       kind = refl;
-      says = says;
+      says = (read_where_spelled (written pairs) pairs).0 says;
       fits = omega arith;
       checked = refl;
     }
@@ -184,7 +184,7 @@ SpellsObject-said descriptor pairs body says small = by descriptor
       joined = refl;
       version = refl;
       kind = refl;
-      says = says;
+      says = (read_where_spelled (written pairs) pairs).0 says;
       fits = omega arith;
       checked = refl;
     }

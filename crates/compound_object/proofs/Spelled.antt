@@ -1,13 +1,14 @@
 -- An object that is read is spelled so, each byte of it.
 use Rattle.std.proofs.Common.{◌≡◌, ℕ, zero, suc, ◌+◌, ◌-◌, ◌*◌, ◌^◌, ◌<◌, ◌≤◌, true, List, [], ◌∷◌, ◌++◌, length, get_or, take}
 use Rattle.std.proofs.Common.{drop, replicate, Option, Some, None, Result, Ok, Err, refl, sym, ap, subst, ◌∙◌, append_assoc, arith}
-use Rattle.std.specs.Prelude.{IfOk}
+use Rattle.std.specs.Prelude.{IfOk, ◌↔◌}
 use Rattle.wire_bytes.specs.Bytes.{AreBytes, are_zero}
 use Rattle.wire_bytes.proofs.Public.{zeros_are, byte_at_place}
 use Rattle.std.proofs.lemmas.List.{take-append-drop, drop-drop, length-take, length-drop}
 use Rattle.std.proofs.lemmas.Nat.{be_bytes_2, be_bytes_4}
 use Rattle.byteorder.specs.Endian.{big_bytes}
 use Rattle.meta_text.specs.declared.fault.FieldFault.{FieldFault}
+use Rattle.meta_text.proofs.Public.{read_where_spelled}
 use Rattle.meta_text.specs.Fields.{Pair}
 use Rattle.meta_text.specs.Reading as fields
 use Rattle.compound_object.specs.declared.fault.CompoundFault.{CompoundFault}
@@ -16,7 +17,7 @@ use Rattle.compound_object.specs.Object.{rounded, header_length_of, layout, Spel
 use Rattle.compound_object.specs.Reading.{header_length, metadata_in, filling_in, body_in, is_descriptor, stated_sum, found_sum}
 use Rattle.compound_object.specs.Reading.{refusal, Parts, parts_of, with_fields, unless, reading, Gives}
 use Rattle.compound_object.proofs.Refusals.{Passes, passes_from_none}
-use Rattle.compound_object.proofs.Layouts.{tail, past_eight, found_sum-layout}
+use Rattle.compound_object.proofs.Layouts.{reading-spelled, tail, past_eight, found_sum-layout}
 
 two_bytes : (a b : ℕ) → a < 256 → b < 256 → big_bytes 2 (a * 256 + b) ≡ a ∷ b ∷ []
 two_bytes a b la lb = be_bytes_2 (a ∷ b ∷ []) (a * 256 + b) refl small (omega arith)
@@ -93,7 +94,7 @@ spelled (a0 ∷ a1 ∷ a2 ∷ a3 ∷ a4 ∷ a5 ∷ a6 ∷ a7 ∷ rest) pairs fit
       joined = joined;
       version = p.version;
       kind = refl;
-      says = says;
+      says = (read_where_spelled metadata pairs).0 says;
       fits = fits_32;
       checked = p.sum ∙ ap found_sum joined ∙ found_sum-layout a0 (stated_sum o) metadata body fits_32;
     } in
@@ -126,3 +127,7 @@ spelled-reading o parts fits e = by (refusal o) refl e
 pub is_spelled : (o : List ℕ) (r : Result Compound CompoundFault) → AreBytes o → Gives r (reading o) → IfOk r (λ c. SpellsObject o c.descriptor c.fields c.body.now)
 is_spelled o (Ok c) fits given = spelled-reading o (parts_of c) fits given
 is_spelled o (Err fault) fits given = tt
+
+-- and what is spelled so is read
+pub read_where_spelled_so : (o : List ℕ) (parts : Parts) → AreBytes o → (reading o ≡ Ok parts) ↔ SpellsObject o parts.descriptor parts.fields parts.body
+read_where_spelled_so o parts fits = (spelled-reading o parts fits, reading-spelled o parts.descriptor parts.fields parts.body)

@@ -1,3 +1,4 @@
 pub mod Checksum
 pub mod Object
 pub mod Reading
+pub mod Causes

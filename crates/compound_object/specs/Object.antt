@@ -11,10 +11,10 @@
 --    +---------------------------------------------------------------+
 --    |                              body                             |
 --    +---------------------------------------------------------------+
-use Rattle.std.specs.Prelude.{◌≡◌, ℕ, ◌+◌, ◌-◌, ◌*◌, ◌/◌, ◌%◌, ◌^◌, ◌<◌, ◌==◌, Bool, if◌then◌else◌, List, [], ◌∷◌, ◌++◌, length, replicate, Ok}
+use Rattle.std.specs.Prelude.{◌≡◌, ℕ, ◌+◌, ◌-◌, ◌*◌, ◌/◌, ◌%◌, ◌^◌, ◌<◌, ◌==◌, Bool, if◌then◌else◌, List, [], ◌∷◌, ◌++◌, length, replicate}
 use Rattle.byteorder.specs.Endian.{big_bytes}
 use Rattle.meta_text.specs.Fields.{Pair, written}
-use Rattle.meta_text.specs.Reading.{reading}
+use Rattle.meta_text.specs.Spelled.{SpellsFields}
 use Rattle.compound_object.specs.Checksum.{checksum}
 
 -- a length rounded up to a multiple of four
@@ -44,7 +44,7 @@ pub record SpellsObject (object : List ℕ) (descriptor : Bool) (fields : List P
   pub joined : object ≡ layout first sum metadata body
   pub version : first / 64 ≡ 0
   pub kind : descriptor ≡ (first % 2 == 1)
-  pub says : reading metadata ≡ Ok fields
+  pub says : SpellsFields metadata fields
   pub fits : header_length_of metadata < 2 ^ 32
   pub checked : sum ≡ checksum (summed first metadata body)
 

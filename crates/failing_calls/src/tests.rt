@@ -7,6 +7,5 @@ mod listening;
 mod receiving;
 mod same;
 mod sending;
-mod sure;
 mod wanting;
 mod wants;

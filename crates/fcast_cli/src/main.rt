@@ -19,6 +19,7 @@ use edge_real::{
 };
 use fcast_run::{Edge, Wide, run, run_listen};
 use meta_text::Label;
+use run_base::{Fault, Status, fault_of, number};
 use std::io::{BufReader, BufWriter, ErrorKind};
 use std::process::ExitCode;
 use std::rt::Env;
@@ -28,18 +29,6 @@ use std::time::Clock;
 use std::{env, io};
 use watch_list::{Bell, Counter, Lines, Watch};
 
-/// The status for an environment variable that is no number in its range, as for a faulty command.
-const NO_COMMAND: u8 = 1;
-
-/// The status for a standard output that fails.
-const TEXT_FAILED: u8 = 5;
-
-/// The status for a folder `installed` that fails.
-const SHELF_FAILED: u8 = 6;
-
-/// The status for want of memory.
-const NO_MEMORY: u8 = 9;
-
 /// How many bytes are read from standard input, or written to an output, at once.
 const PIECE: usize = 65_536;
 
@@ -47,11 +36,11 @@ fn main(rt: HostRuntime) -> ExitCode {
     let _held = [hold_standard(&rt), hold_standard(&rt), hold_standard(&rt)];
     let status = match command_words(&rt) {
         Ok(words) => run_words(&rt, rt, words.as_slice()),
-        Err(error) if error.kind() == ErrorKind::OutOfMemory => NO_MEMORY,
+        Err(error) if error.kind() == ErrorKind::OutOfMemory => number(Err(Fault::Memory)),
         // Words that aren't text are no command, as no words are.
         Err(_) => run_words(&rt, rt, &[]),
     };
-    if status == NO_MEMORY {
+    if fault_of(status) == Some(Fault::Memory) {
         tell(&rt, "memory", &None);
     }
     ExitCode::from(status)
@@ -65,10 +54,12 @@ fn run_words<R: Threads + Wait + Clock + Copy + Send + 'static>(
 ) -> u8 {
     match asked_settings(&rt) {
         // Only a buffer's memory is asked for.
-        Ok(settings) => run_outside(threads, rt, settings, words).unwrap_or(NO_MEMORY),
+        Ok(settings) => run_outside(threads, rt, settings, words).unwrap_or(number(Err(
+            Fault::Memory,
+        ))),
         Err(SettingFault::Rate) => {
             tell(&rt, "FCAST_RATE is no number of bytes a second", &None);
-            NO_COMMAND
+            number(Ok(Status::NoCommand))
         }
         Err(SettingFault::Idle) => {
             tell(
@@ -76,9 +67,9 @@ fn run_words<R: Threads + Wait + Clock + Copy + Send + 'static>(
                 "FCAST_IDLE is no number of seconds from 1 to 86400",
                 &None,
             );
-            NO_COMMAND
+            number(Ok(Status::NoCommand))
         }
-        Err(SettingFault::Memory) => NO_MEMORY,
+        Err(SettingFault::Memory) => number(Err(Fault::Memory)),
     }
 }
 
@@ -135,15 +126,15 @@ fn run_outside<R: Threads + Wait + Clock + Copy + Send + 'static>(
     // The lines of events that are still in the buffer go out with the one who wrote them.
     drop(watchers);
     tell_heard(&rt, heard.as_slice());
-    match status {
-        4 => tell_first(
+    match fault_of(status) {
+        Some(Fault::Datagrams) => tell_first(
             &rt,
             &[
                 ("UDP", &edge.datagrams.udp.failures.last),
                 ("standard input", &edge.datagrams.log.source.failures.last),
             ],
         ),
-        5 => tell_first(
+        Some(Fault::Text | Fault::Emit) => tell_first(
             &rt,
             &[
                 ("UDP", &edge.emit.udp.failures.last),
@@ -151,9 +142,9 @@ fn run_outside<R: Threads + Wait + Clock + Copy + Send + 'static>(
                 ("standard output", &edge.text.text.failures.last),
             ],
         ),
-        SHELF_FAILED => tell(&rt, "installed", &edge.shelf.failures.last),
-        12 => tell_file(&rt, &edge.files),
-        _ => {}
+        Some(Fault::Shelf) => tell(&rt, "installed", &edge.shelf.failures.last),
+        Some(Fault::Files) => tell_file(&rt, &edge.files),
+        Some(Fault::Memory) | None => {}
     }
     if receives {
         // What can't be removed now is removed by the next run.
@@ -167,9 +158,9 @@ fn tell_unclear(rt: HostRuntime, shelf: &FolderShelf<HostRuntime>, trouble: Trou
     match trouble {
         Trouble::Failed => {
             tell(&rt, "installed", &shelf.failures.last);
-            SHELF_FAILED
+            number(Err(Fault::Shelf))
         }
-        Trouble::Memory => NO_MEMORY,
+        Trouble::Memory => number(Err(Fault::Memory)),
     }
 }
 
@@ -187,8 +178,8 @@ fn has_address(words: &[Label]) -> bool {
 fn ended(status: u8, flushed: Result<(), Trouble>) -> u8 {
     match flushed {
         Ok(()) => status,
-        Err(Trouble::Failed) => TEXT_FAILED,
-        Err(Trouble::Memory) => NO_MEMORY,
+        Err(Trouble::Failed) => number(Err(Fault::Text)),
+        Err(Trouble::Memory) => number(Err(Fault::Memory)),
     }
 }
 

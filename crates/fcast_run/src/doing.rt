@@ -5,7 +5,6 @@ ghost use Rattle.run_words.specs.Commands.{task_for};
 ghost use Rattle.run_words.specs.Ranges.{IsFit};
 ghost use Rattle.watch_list.specs.Hearing.{Heard};
 
-use run_tasks::Edge;
 use crate::receive::receive;
 use edge_io::{Datagrams, Emit, Files, Shelf, Text};
 use meta_text::Label;
@@ -14,6 +13,7 @@ use run_drill::drill;
 use run_dump::dump;
 use run_receive::Nobody;
 use run_send::send;
+use run_tasks::Edge;
 use run_words::{Task, read_task};
 use std::alloc::Global;
 use watch_list::Watch;

@@ -12,10 +12,10 @@ ghost use Rattle.run_tasks.specs.Tasks.{uses, outcome};
 ghost use Rattle.watch_list.specs.Hearing.{Heard};
 
 use crate::doing::attempt;
-use run_tasks::Edge;
 use edge_io::{Datagrams, Emit, Files, Shelf, Text};
 use meta_text::Label;
 use run_base::number;
+use run_tasks::Edge;
 use std::alloc::Global;
 use watch_list::Watch;
 

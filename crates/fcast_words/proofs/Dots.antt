@@ -1,12 +1,13 @@
 -- An address read number by number is four numbers joined by dots.
 use Rattle.std.proofs.Common.{◌≡◌, ◌<◌, ◌+◌, ◌&&◌, ◌||◌, ℕ, Bool, true, false, not, suc, List, [], ◌∷◌, length, cond, Option, Some}
 use Rattle.std.proofs.Common.{None, refl, sym, ap, ◌∙◌, arith, nat_le, option_map, option_and_then}
+use Rattle.std.specs.Char.{is_ascii_digit}
 use Rattle.std.specs.List.{list_any, list_all, slice_split, before_first, after_first, position_or_len}
 use Rattle.std.specs.Str.Parse.{digits_value}
 use Rattle.std.proofs.lemmas.Bool.{and_parts, leb-true, ne_eqb, or_parts, or_from, true≢false}
 use Rattle.std.proofs.lemmas.List.Splits.{slice_split_first, length-slice_split}
 use Rattle.fcast_words.specs.Pairs.{Text}
-use Rattle.fcast_words.specs.Numbers.{is_digit, is_in}
+use Rattle.fcast_words.specs.Numbers.{is_in}
 use Rattle.fcast_words.specs.Addresses.{is_dot, byte_of, bytes_of, address_of}
 use Rattle.fcast_words.specs.Inner.Dots.{last_byte, byte_then, four_bytes}
 
@@ -32,15 +33,15 @@ uncut (b ∷ text) e =
 
 -- ---- a number has no dot
 
-digits_only : (text : Text) → list_all is_digit text ≡ true → list_any is_dot text ≡ false
+digits_only : (text : Text) → list_all is_ascii_digit text ≡ true → list_any is_dot text ≡ false
 digits_only [] e = refl
 digits_only (b ∷ text) e =
-    let parts = and_parts (is_digit b) (list_all is_digit text) e in
+    let parts = and_parts (is_ascii_digit b) (list_all is_ascii_digit text) e in
     let large = leb-true 48 b (and_parts (nat_le 48 b) (nat_le b 57) parts.0).0 in
     or_from (is_dot b) (list_any is_dot text) (ne_eqb b 46 (λ same. omega (arith, same, large))) (digits_only text parts.1)
 
-not_digits : (text : Text) → list_any is_dot text ≡ true → list_all is_digit text ≡ false
-not_digits text dot = by (list_all is_digit text) (digits_only text)
+not_digits : (text : Text) → list_any is_dot text ≡ true → list_all is_ascii_digit text ≡ false
+not_digits text dot = by (list_all is_ascii_digit text) (digits_only text)
   where
     by : (digits : Bool) → (digits ≡ true → list_any is_dot text ≡ false) → digits ≡ false
     by true none = absurd (true≢false (sym dot ∙ none refl))

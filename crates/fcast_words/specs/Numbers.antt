@@ -1,15 +1,13 @@
 -- The number that an option's value spells.
 use Rattle.std.specs.Prelude.{◌&&◌, Bool, ℕ, List, length, Option, Some, None, if◌then◌else◌}
 use Rattle.std.specs.Prelude.{nat_le}
+use Rattle.std.specs.Char.{is_ascii_digit}
 use Rattle.std.specs.List.{list_all}
 use Rattle.std.specs.Str.Parse.{digits_value}
 
-abbrev pub is_digit : ℕ → Bool
-is_digit b = nat_le 48 b && nat_le b 57
-
 -- 1 to 20 ASCII digits
 abbrev pub is_numeral : List ℕ → Bool
-is_numeral text = nat_le 1 (length text) && (nat_le (length text) 20 && list_all is_digit text)
+is_numeral text = nat_le 1 (length text) && (nat_le (length text) 20 && list_all is_ascii_digit text)
 
 abbrev pub is_in : ℕ → ℕ → ℕ → Bool
 is_in least greatest n = nat_le least n && nat_le n greatest

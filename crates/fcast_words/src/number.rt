@@ -1,9 +1,10 @@
 //! Numbers of decimal digits, in a range.
 
 ghost use Rattle.std.specs.Prelude.{◌≡◌, ◌≤◌, IfSome, option_map};
+ghost use Rattle.std.specs.Char.{is_ascii_digit};
 ghost use Rattle.std.specs.List.{list_all};
 ghost use Rattle.fcast_words.specs.Numbers as numbers;
-ghost use Rattle.fcast_words.specs.Numbers.{is_digit, number_in};
+ghost use Rattle.fcast_words.specs.Numbers.{number_in};
 
 /// The number that a text of 1 to 20 ASCII digits spells, where it is in the range, the ends
 /// included.
@@ -49,7 +50,7 @@ fn is_numeral(text: &[u8]) -> bool
 }
 
 fn are_digits(text: &[u8]) -> bool
-    ensures { result ≡ list_all is_digit text.now }
+    ensures { result ≡ list_all is_ascii_digit text.now }
 {
-    text.iter().all(|b| *b >= b'0' && *b <= b'9')
+    text.iter().all(|b| b.is_ascii_digit())
 }

@@ -8,5 +8,7 @@ pub mod Lookups
 pub mod Written
 pub mod Public
 pub mod PairSpans
+pub mod Fronts
 pub mod Sound
 pub mod LineLaws
+pub mod Spelled

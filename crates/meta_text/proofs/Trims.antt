@@ -1,8 +1,11 @@
 -- Blanks at the ends of a text.
-use Rattle.std.proofs.Common.{◌≡◌, ◌↔◌, ℕ, ◌≤◌, Bool, true, false, cond, eqb, List, [], ◌∷◌, ◌++◌, length, reverse, refl, sym, ap, ◌∙◌, arith}
+use Rattle.std.proofs.Common.{◌≡◌, ◌≢◌, ◌↔◌, ℕ, ◌≤◌, Bool, true, false, cond, eqb, List, [], ◌∷◌, ◌++◌, length, reverse, refl, sym, ap, ◌∙◌, append-nil, arith}
 use Rattle.std.proofs.lemmas.List.{reverse-append, reverse-reverse, length-reverse}
 use Rattle.std.proofs.lemmas.Bool.{eqb-true, eq-eqb}
+use Rattle.std.specs.List.{list_all}
+use Rattle.std.proofs.lemmas.Bool.{and_parts}
 use Rattle.meta_text.specs.Text.{is_blank, without_leading, without_trailing, trimmed, is_clean, IsValue}
+use Rattle.meta_text.proofs.LineLaws.{all_reversed}
 
 lead_again : (xs : List ℕ) → without_leading (without_leading xs) ≡ without_leading xs
 lead_again [] = refl
@@ -90,3 +93,36 @@ IsValue-by_length text front trim clean = (
   λ same. record { clean = clean; ends = trimmed_same text (ap length (sym trim) ∙ eqb-true (length front) (length text) same) },
   λ value. eq-eqb (length front) (length text) (ap length (trim ∙ value.ends)),
 )
+
+-- ---- a text with blanks at its ends
+
+lead_blanks : (blanks xs : List ℕ) → list_all is_blank blanks ≡ true → without_leading (blanks ++ xs) ≡ without_leading xs
+lead_blanks [] xs all = refl
+lead_blanks (b ∷ bs) xs all =
+    let both = and_parts (is_blank b) (list_all is_blank bs) all in
+    rw both.0 (lead_blanks bs xs both.1)
+
+trail_blanks : (xs blanks : List ℕ) → list_all is_blank blanks ≡ true → without_trailing (xs ++ blanks) ≡ without_trailing xs
+trail_blanks xs blanks all =
+    ap (λ (ys : List ℕ). reverse (without_leading ys)) (reverse-append xs blanks)
+    ∙ ap reverse (lead_blanks (reverse blanks) (reverse xs) (all_reversed is_blank blanks all))
+
+-- a text that is trimmed begins with no blank, whatever follows it
+lead_kept : (xs rest : List ℕ) → without_leading xs ≡ xs → length xs ≢ 0 → without_leading (xs ++ rest) ≡ xs ++ rest
+lead_kept [] rest same some = absurd (some refl)
+lead_kept (b ∷ bs) rest same some = by (is_blank b) same
+  where
+    by : (t : Bool) → cond t (without_leading bs) (b ∷ bs) ≡ b ∷ bs → cond t (without_leading (bs ++ rest)) (b ∷ (bs ++ rest)) ≡ b ∷ (bs ++ rest)
+    by true e = absurd (omega (arith, lead_le bs, ap length e))
+    by false e = refl
+
+pub trimmed_between_blanks : (before xs after : List ℕ) → list_all is_blank before ≡ true → list_all is_blank after ≡ true
+    → trimmed xs ≡ xs → trimmed (before ++ (xs ++ after)) ≡ xs
+trimmed_between_blanks before [] after all_before all_after same =
+    ap without_trailing (lead_blanks before after all_before) ∙ ap (λ (ys : List ℕ). without_trailing (without_leading ys)) (sym (append-nil after))
+    ∙ ap without_trailing (lead_blanks after [] all_after)
+trimmed_between_blanks before (b ∷ bs) after all_before all_after same =
+    let xs = b ∷ bs in
+    let front : without_leading xs ≡ xs = ap without_leading (sym same) ∙ lead_of_trimmed xs ∙ same in
+    ap without_trailing (lead_blanks before (xs ++ after) all_before ∙ lead_kept xs after front (λ none. cc))
+    ∙ trail_blanks xs after all_after ∙ ap without_trailing (sym front) ∙ same

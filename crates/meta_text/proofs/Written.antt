@@ -1,7 +1,7 @@
 -- What is written is read back.
-use Rattle.std.proofs.Common.{◌≡◌, ℕ, ◌+◌, ◌<◌, Bool, true, false, not, cond, eqb, List, [], ◌∷◌, ◌++◌, length, take, drop}
+use Rattle.std.proofs.Common.{◌≡◌, ℕ, ◌+◌, Bool, true, false, not, cond, eqb, List, [], ◌∷◌, ◌++◌, length, take, drop}
 use Rattle.std.proofs.Common.{reverse, map, None, Ok, refl, sym, ap, ◌∙◌, append_assoc, arith}
-use Rattle.std.specs.List.{list_all, position_or_len}
+use Rattle.std.specs.List.{list_all, list_any, position_or_len}
 use Rattle.std.specs.Option.{option_or}
 use Rattle.std.proofs.lemmas.Bool.{eqb-true, and_parts, and_from, false≢true}
 use Rattle.std.proofs.lemmas.List.{take_at, drop_at, reverse-append, reverse-reverse, length-append, length_push}
@@ -46,7 +46,7 @@ cut_line (b ∷ xs) rest none =
 return_at_end : (xs : List ℕ) → without_return (xs ++ 0x0D ∷ []) ≡ xs
 return_at_end xs = ap (λ (ys : List ℕ). reverse (after_return ys)) (reverse-append xs (0x0D ∷ [])) ∙ reverse-reverse xs
 
-place_at : (p : ℕ → Bool) (xs : List ℕ) (y : ℕ) (ys : List ℕ) → list_all (λ b. not (p b)) xs ≡ true → p y ≡ true → position_or_len p (xs ++ y ∷ ys) ≡ length xs
+pub place_at : (p : ℕ → Bool) (xs : List ℕ) (y : ℕ) (ys : List ℕ) → list_all (λ b. not (p b)) xs ≡ true → p y ≡ true → position_or_len p (xs ++ y ∷ ys) ≡ length xs
 place_at p [] y ys none is = ap (λ t. cond (not t) (1 + position_or_len p ys) 0) is
 place_at p (x ∷ xs) y ys none is =
     let parts = and_parts (not (p x)) (list_all (λ b. not (p b)) xs) none in
@@ -56,7 +56,7 @@ place_at p (x ∷ xs) y ys none is =
 abbrev text_of : Pair → List ℕ
 text_of pair = pair.0 ++ 0x3A ∷ 0x20 ∷ pair.1
 
-name_free : (c : ℕ) → is_name_byte c ≡ false → (name : List ℕ) → IsName name → list_all (λ b. not (eqb b c)) name ≡ true
+pub name_free : (c : ℕ) → is_name_byte c ≡ false → (name : List ℕ) → IsName name → list_all (λ b. not (eqb b c)) name ≡ true
 name_free c fails name is =
     all_weaker is_name_byte (λ b. not (eqb b c)) (no_byte is_name_byte c fails) name (and_parts (not (is_empty name)) (list_all is_name_byte name) is).1
 
@@ -79,23 +79,35 @@ lines_of_line pair rest is =
     (all_append (λ b. not (is_line_feed b)) pair.0 (0x3A ∷ 0x20 ∷ pair.1) (name_free 0x0A refl pair.0 is.name) (value_free 0x0A refl pair.1 is.value)) refl in
     ap lines_of joined ∙ ap (λ (ls : List (List ℕ)). map without_return ls) (cut_line bytes rest free) ∙ ap (λ l. l ∷ lines_of rest) (return_at_end (text_of pair))
 
-colon_place : (pair : Pair) → IsPair pair → position_or_len is_colon (text_of pair) ≡ length pair.0
-colon_place pair is = place_at is_colon pair.0 0x3A (0x20 ∷ pair.1) (name_free 0x3A refl pair.0 is.name) refl
+-- what stands before the first colon, and behind it
+
+colon_place : (name back : List ℕ) → IsName name → position_or_len is_colon (name ++ 0x3A ∷ back) ≡ length name
+colon_place name back is = place_at is_colon name 0x3A back (name_free 0x3A refl name is) refl
+
+pub name_before : (name back : List ℕ) → IsName name → name_in (name ++ 0x3A ∷ back) ≡ name
+name_before name back is = ap (λ n. take n (name ++ 0x3A ∷ back)) (colon_place name back is) ∙ take_at name (0x3A ∷ back) (length name) refl
+
+pub value_behind : (name back : List ℕ) → IsName name → value_in (name ++ 0x3A ∷ back) ≡ trimmed back
+value_behind name back is =
+    let line = name ++ 0x3A ∷ back in
+    let joined : line ≡ (name ++ 0x3A ∷ []) ++ back = sym (append_assoc name (0x3A ∷ []) back) in
+    let rest : drop (length name + 1) line ≡ back = ap (drop (length name + 1)) joined
+    ∙ drop_at (name ++ 0x3A ∷ []) back (length name + 1) (length_push name 0x3A) in
+    ap (λ n. trimmed (drop (n + 1) line)) (colon_place name back is) ∙ ap trimmed rest
+
+pub colon_there : (name back : List ℕ) → IsName name → list_any is_colon (name ++ 0x3A ∷ back) ≡ true
+colon_there name back is =
+    any_from_place is_colon (name ++ 0x3A ∷ back) (omega (arith, colon_place name back is, length-append name (0x3A ∷ back)))
 
 name_of_text : (pair : Pair) → IsPair pair → name_in (text_of pair) ≡ pair.0
-name_of_text pair is = ap (λ n. take n (text_of pair)) (colon_place pair is) ∙ take_at pair.0 (0x3A ∷ 0x20 ∷ pair.1) (length pair.0) refl
+name_of_text pair is = name_before pair.0 (0x20 ∷ pair.1) is.name
 
 value_of_text : (pair : Pair) → IsPair pair → value_in (text_of pair) ≡ pair.1
-value_of_text pair is =
-    let joined : text_of pair ≡ (pair.0 ++ 0x3A ∷ []) ++ 0x20 ∷ pair.1 = sym (append_assoc pair.0 (0x3A ∷ []) (0x20 ∷ pair.1)) in
-    let rest : drop (length pair.0 + 1) (text_of pair) ≡ 0x20 ∷ pair.1 = ap (drop (length pair.0 + 1)) joined
-    ∙ drop_at (pair.0 ++ 0x3A ∷ []) (0x20 ∷ pair.1) (length pair.0 + 1) (length_push pair.0 0x3A) in
-    ap (λ n. trimmed (drop (n + 1) (text_of pair))) (colon_place pair is) ∙ ap trimmed rest ∙ is.value.ends
+value_of_text pair is = value_behind pair.0 (0x20 ∷ pair.1) is.name ∙ is.value.ends
 
 sound_text : (n : ℕ) (pair : Pair) → IsPair pair → fault_of (n, text_of pair) ≡ None
 sound_text n pair is =
-    let some : position_or_len is_colon (text_of pair) < length (text_of pair) = omega (arith, colon_place pair is, length-append pair.0 (0x3A ∷ 0x20 ∷ pair.1)) in
-    fault_none_by n (text_of pair) (any_from_place is_colon (text_of pair) some)
+    fault_none_by n (text_of pair) (colon_there pair.0 (0x20 ∷ pair.1) is.name)
     (ap is_name (name_of_text pair is) ∙ is.name) (ap is_clean (value_of_text pair is) ∙ is.value.clean)
 
 -- ---- the lines of the pairs

@@ -2,5 +2,6 @@ pub mod Text
 pub mod Fields
 pub mod Lines
 pub mod Reading
+pub mod Spelled
 pub mod Lookup
 pub mod Inner

@@ -1,6 +1,6 @@
 //! Fields: pairs of a name and a value, kept in one text.
 
-ghost use Rattle.std.specs.Prelude.{ℕ, List, ◌≡◌, ◌<◌, ◌+◌, ◌-◌, ◌^◌, ◌++◌, [], ◌∷◌, length, min, slice_get, Some, Ok, IsOk, IfOk, IfErr, OnOk, OnErr};
+ghost use Rattle.std.specs.Prelude.{ℕ, List, ◌≡◌, ◌<◌, ◌+◌, ◌-◌, ◌^◌, ◌++◌, [], ◌∷◌, length, take, min, slice_get, Some, Ok, IsOk, IfOk, IfErr, OnOk, OnErr};
 ghost use Rattle.std.specs.Str.{IsUtf8};
 ghost use Rattle.meta_text.specs.Text.{IsName, IsValue};
 ghost use Rattle.meta_text.specs.Fields.{line_of, written};
@@ -120,9 +120,10 @@ impl Fields {
         Ok(out)
     }
 
-    /// Adds the text of the fields to these bytes.
+    /// Adds the text of the fields to these bytes. Without memory for all of it, a front of it is added.
     pub fn write_to(&self, out: &mut Vec<u8>) -> Result<(), AllocError>
         ensures text { OnOk result (out.new.items ≡ out.old.items ++ written self.now) }
+        ensures front { OnErr result ((n : ℕ) × (out.new.items ≡ out.old.items ++ take n (written self.now))) }
         ensures read_again { readings.reading (written self.now) ≡ Ok self.now }
     {
         push_lines(out, &self.text, &self.spans)
@@ -238,7 +239,8 @@ fn noted<'a>(found: Field<'a>, text: &'a [u8], span: &Span, wanted: &str) -> Fie
 
 fn push_lines(out: &mut Vec<u8>, text: &[u8], spans: &[Span]) -> Result<(), AllocError>
     requires { AreSpans text.now spans.now }
-    ensures { OnOk result (out.new.items ≡ out.old.items ++ written (pairs_at text.now spans.now)) }
+    ensures ok { OnOk result (out.new.items ≡ out.old.items ++ written (pairs_at text.now spans.now)) }
+    ensures front { OnErr result ((n : ℕ) × (out.new.items ≡ out.old.items ++ take n (written (pairs_at text.now spans.now)))) }
 {
     for span in spans {
         push_line(out, text, *span)?;
@@ -248,7 +250,8 @@ fn push_lines(out: &mut Vec<u8>, text: &[u8], spans: &[Span]) -> Result<(), Allo
 
 fn push_line(out: &mut Vec<u8>, text: &[u8], span: Span) -> Result<(), AllocError>
     requires { IsSpan text.now span }
-    ensures { OnOk result (out.new.items ≡ out.old.items ++ line_of (pair_at text.now span)) }
+    ensures ok { OnOk result (out.new.items ≡ out.old.items ++ line_of (pair_at text.now span)) }
+    ensures front { OnErr result ((n : ℕ) × (out.new.items ≡ out.old.items ++ take n (line_of (pair_at text.now span)))) }
 {
     out.extend_from_slice(name(text, span).as_bytes())?;
     out.extend_from_slice(b": ")?;

@@ -1,12 +1,24 @@
 //! Laws over the definitions. They are proved, and do nothing when they are called.
 
-ghost use Rattle.std.specs.Prelude.{◌≡◌, ◌≢◌, ◌⊎◌, ◌++◌, ◌∷◌, [], ℕ, List, Ok, Err, true, false};
+ghost use Rattle.std.specs.Prelude.{◌≡◌, ◌≢◌, ◌↔◌, ◌⊎◌, ◌++◌, ◌∷◌, [], ℕ, List, Ok, Err, true, false};
 ghost use Rattle.std.specs.List.{list_all, list_any, flat_map, AllByRecursion};
+ghost use Rattle.meta_text.specs.declared.fault.FieldFault.{FieldFault};
 ghost use Rattle.meta_text.specs.declared.fault.FieldFault.TheVariants.{Memory};
 ghost use Rattle.meta_text.specs.Text.{is_blank, trimmed};
 ghost use Rattle.meta_text.specs.Lines.{is_line_feed, cut, with_feed};
 ghost use Rattle.meta_text.specs.Fields.{Pair, ArePairs, written};
 ghost use Rattle.meta_text.specs.Reading.{reading};
+ghost use Rattle.meta_text.specs.Spelled.{SpellsFields, IsFirstFault};
+
+/// What is computed of a text is its pairs exactly where the text spells them.
+pub fn read_exactly_where_spelled()
+    ensures { (text : List ℕ) (pairs : List Pair) → (reading text ≡ Ok pairs) ↔ SpellsFields text pairs }
+{}
+
+/// And it is a fault exactly where that is the first cause of the first faulty line.
+pub fn first_cause_told()
+    ensures { (text : List ℕ) (fault : FieldFault) → (reading text ≡ Err fault) ↔ IsFirstFault text fault }
+{}
 
 /// What is written of names and values is read back, pair by pair.
 pub fn reads_back()

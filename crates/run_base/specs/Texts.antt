@@ -4,10 +4,6 @@ use Rattle.std.specs.Fmt.{decimal}
 use Rattle.run_base.specs.declared.ending.Ending.{Ending}
 use Rattle.run_base.specs.declared.ending.Ending.TheVariants.{End, Torn, TooMany}
 
--- a label and a number, without a line feed
-unfoldable pub labelled : List ℕ → ℕ → List ℕ
-labelled label number = label ++ decimal number
-
 abbrev pub line : List ℕ → List ℕ
 line text = text ++ 10 ∷ []
 

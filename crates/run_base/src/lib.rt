@@ -18,5 +18,5 @@ pub use fault::Fault;
 pub use lines::{push_ending, push_labelled, push_number, push_text};
 pub use list::{Step, next_within};
 pub use settings::Settings;
-pub use status::{Status, number};
+pub use status::{Status, fault_of, number};
 pub use writing::{tell, tell_usage, write};

@@ -1,12 +1,13 @@
 //! The lines of a text, and the numbers in them.
 ghost use Rattle.std.specs.Prelude.{◌≡◌, ◌++◌, OnOk, string_bytes};
-ghost use Rattle.run_base.specs.Texts.{labelled, line, number_line, ending_line};
+ghost use Rattle.watch_list.specs.EventLines.{labelled};
+ghost use Rattle.run_base.specs.Texts.{line, number_line, ending_line};
 
 use crate::ending::Ending;
 use std::alloc::{AllocError, Global};
 
 /// Adds a label and a number.
-#[tactic(auto, unfolding(crate::specs::Texts::labelled))]
+#[tactic(auto, unfolding(watch_list::specs::EventLines::labelled))]
 pub fn push_labelled(
     alloc: Global,
     text: &mut String,

@@ -1,6 +1,7 @@
 //! The table of statuses: how a run ends, and the number that the program answers then.
-ghost use Rattle.std.specs.Prelude.{◌≡◌};
+ghost use Rattle.std.specs.Prelude.{◌≡◌, ◌≢◌, None, Err, IfSome};
 ghost use Rattle.run_base.specs.Statuses.{number};
+ghost use Rattle.run_base.specs.declared.fault.Fault.{Fault};
 
 use crate::fault::Fault;
 
@@ -45,5 +46,21 @@ pub fn number(answer: Result<Status, Fault>) -> u8
         Ok(Status::Missing) => 10,
         Ok(Status::TooMany) => 11,
         Err(Fault::Files) => 12,
+    }
+}
+
+/// The fault that a number says, and none where a run ended with it. Of the text and the sink, which share a number, it is
+/// the text.
+pub fn fault_of(status: u8) -> Option<Fault>
+    ensures said { IfSome result (λ fault. number (Err fault) ≡ status) }
+    ensures unsaid { result ≡ None → (fault : Fault) → number (Err fault) ≢ status }
+{
+    match status {
+        4 => Some(Fault::Datagrams),
+        5 => Some(Fault::Text),
+        6 => Some(Fault::Shelf),
+        9 => Some(Fault::Memory),
+        12 => Some(Fault::Files),
+        _ => None,
     }
 }

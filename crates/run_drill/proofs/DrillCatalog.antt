@@ -11,7 +11,7 @@ use Rattle.std.proofs.lemmas.List.Sums.{sum_by-le}
 use Rattle.std.proofs.lemmas.Fmt.{IsAscii-decimal}
 use Rattle.std.proofs.lemmas.Str.{is_utf8-from_IsUtf8, IsUtf8-from_ascii}
 use Rattle.std.proofs.lemmas.Slice.Eq.{bytes_eq-Decides}
-use Rattle.std.proofs.lemmas.Bool.Decides.{nat_tests}
+use Rattle.std.proofs.lemmas.Bool.{leb-true}
 use Rattle.wire_bytes.specs.Below.{all_below}
 use Rattle.wire_bytes.specs.FirstFault.{first_fault}
 use Rattle.wire_bytes.proofs.Public.{passes_below}
@@ -78,12 +78,9 @@ items_more first n items items' i before is more =
 abbrev pub IsShort : CatalogItem → Type 0
 IsShort i = length i.location + length (unwrap_or i.kind []) ≤ 16777216
 
-within : (n m : ℕ) → nat_le n m ≡ true → n ≤ m
-within n m h = grind (arith, nat_tests)
-
 short_item : (file : ℕ) → file < 12 → IsShort (item file)
 short_item file less =
-    let e = within (length (location file)) 100 (passes_below 12 file (λ f. nat_le (length (location f)) 100) short_checked less) in omega (arith, e)
+    let e = leb-true (length (location file)) 100 (passes_below 12 file (λ f. nat_le (length (location f)) 100) short_checked less) in omega (arith, e)
 
 short_items : (n first : ℕ) → first + n ≤ 12 → All IsShort (map item (range_with_len first n))
 short_items zero first few = All-nil IsShort
@@ -119,10 +116,6 @@ short_body x =
     let n = length-drawn_bytes (body_length x) (next_state x) in
     let m = below (draw x) in
     omega (arith, n, m)
-
-pub length-bodies : (n x : ℕ) → length (bodies n x) ≡ n
-length-bodies zero x = refl
-length-bodies (suc n) x = ap suc (length-bodies n (after_body x))
 
 pub short_bodies : (n x : ℕ) → All (λ body. length body ≤ 200000) (bodies n x)
 short_bodies zero x = All-nil (λ (bs : List ℕ). length bs ≤ 200000)

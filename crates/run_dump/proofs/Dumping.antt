@@ -12,7 +12,7 @@ use Rattle.run_base.specs.Answers.{LeavesText}
 use Rattle.run_base.specs.Bounds.{asked, ending_of}
 use Rattle.run_base.specs.Outcome.{Streams}
 use Rattle.run_base.specs.Texts.{ending_line}
-use Rattle.run_base.proofs.Public.{front_written, nothing_added, part_of_front}
+use Rattle.run_base.proofs.Public.{front_written, part_of_front}
 
 lines_front : (place : ℕ) (ds es : List (List ℕ)) → dump_lines place (ds ++ es) ≡ dump_lines place ds ++ dump_lines (place + length ds) es
 lines_front place [] es = ap (λ n. dump_lines n es) (let none : place ≡ place + 0 = omega arith in none)
@@ -74,10 +74,6 @@ pub part_is_part : (most : ℕ) (left : List (List ℕ)) (torn : Option ℕ) (ol
     → AddsPart (dump_lines 0 (take most left)) old new → AddsPart (dumped most left torn).text old new
 unfolding dumped
 part_is_part most left torn old new part = part_of_front (dump_lines 0 (take most left)) (ending_line (ending_of (Most most) left torn)) old new part
-
--- no line was written
-pub no_text : (most : ℕ) (left : List (List ℕ)) (torn : Option ℕ) (old : List ℕ) → AddsPart (dumped most left torn).text old old
-no_text most left torn old = nothing_added (dumped most left torn).text old old refl
 
 -- all that is asked for was read
 pub asks : (most : ℕ) (left : List (List ℕ)) (torn : Option ℕ) → (dumped most left torn).asked ≡ asked (Most most)

@@ -1,5 +1,5 @@
 -- The lines of a dump: what each datagram says, and why the list wasn't read to its end. Numbers are decimal.
-use Rattle.std.specs.Prelude.{ℕ, ◌+◌, Bool, false, if◌then◌else◌, List, [], ◌∷◌, ◌++◌, length, take, Option, Some, None, Result, Ok, Err, codes}
+use Rattle.std.specs.Prelude.{ℕ, ◌+◌, Bool, false, List, [], ◌∷◌, ◌++◌, length, take, Option, Some, None, Result, Ok, Err, codes}
 use Rattle.hex.specs.Hex.{encode_lower}
 use Rattle.oti_blocks.specs.Partition.{ObjectInformation}
 use Rattle.alc_packet.specs.Packet.{SymbolPacket}
@@ -16,15 +16,13 @@ use Rattle.run_base.specs.declared.ending.Ending.{Ending}
 use Rattle.run_base.specs.declared.ending.Ending.TheVariants.{End, Torn, TooMany}
 use Rattle.run_base.specs.Bounds.{asked, ending_of}
 use Rattle.run_base.specs.Outcome.{Outcome, Uses, Streams, text_outcome}
-use Rattle.run_base.specs.Texts.{line, ending_line, labelled}
+use Rattle.watch_list.specs.EventLines.{labelled, truth}
+use Rattle.run_base.specs.Texts.{line, ending_line}
 
 -- the first 16 bytes in lower case, or all where there are fewer; a dash where there is none
 abbrev pub hexadecimal : List ℕ → List ℕ
 hexadecimal [] = codes "-"
 hexadecimal (b ∷ bs) = encode_lower (take 16 (b ∷ bs))
-
-abbrev pub truth : Bool → ℕ
-truth b = if b then 1 else 0
 
 -- where a symbol belongs: its session, its object, its source block, its place there
 unfoldable pub place_text : SymbolPacket → List ℕ

@@ -1,6 +1,7 @@
 //! What a dump says of a datagram.
 ghost use Rattle.std.specs.Prelude.{◌≡◌, ◌++◌, IfOk, OnOk, string_bytes};
-ghost use Rattle.run_dump.specs.Dump.{hexadecimal, truth, place_text, information_text, close_text, data_text};
+ghost use Rattle.watch_list.specs.EventLines.{truth};
+ghost use Rattle.run_dump.specs.Dump.{hexadecimal, place_text, information_text, close_text, data_text};
 ghost use Rattle.run_dump.specs.Dump.{symbol_text, control_text, refusal_text, reply_text, dump_line};
 ghost use Rattle.alc_packet.specs.Reply.{reply};
 

@@ -4,7 +4,8 @@ use Rattle.std.specs.List.{All}
 use Rattle.std.proofs.lemmas.List.{append-nil}
 use Rattle.held_packets.specs.Session.{Session, IsSession, IsOf, AreOf}
 use Rattle.held_packets.specs.Verdict.{held_after}
-use Rattle.held_packets.specs.KeptSet.{drops}
+use Rattle.alc_packet.specs.Packet.{SymbolPacket}
+use Rattle.held_packets.specs.KeptSet.{kept, drops, gathered, ready_objects}
 use Rattle.held_packets.proofs.Public.{whole_is_sent}
 use Rattle.carousel_cid.specs.Instances.{Shown}
 use Rattle.carousel_cid.specs.declared.file_of.FileOf.{FileOf}
@@ -31,6 +32,13 @@ use Rattle.receiver_core.proofs.Public.{best_is_best}
 pub packets_are : (s : Session) (tsi : ℕ) (ds : List (List ℕ)) → All (IsDatagramOf s tsi) ds → AreOf s (packets_of tsi ds)
 packets_are s tsi ds all = packets_have (IsOf s) (IsDatagramOf s tsi) tsi
     (λ d is. (is.bytes, λ q spells of. record { packet = spells.packet; belongs = is.belongs q spells of })) ds all
+
+-- what is installed is the best of what the packets kept make ready
+pub installed_is_best : (s : Session) (budget : ℕ) (ps : List SymbolPacket) → IsSession s → AreOf s ps
+    → IsBestOf (ready_objects s (gathered (kept budget ps))) (installed_after budget ps)
+installed_is_best s budget ps session are =
+    subst (λ (objects : Objects). IsBestOf objects (installed_after budget ps))
+    (λ i t. whole_is_sent s budget ps t session are i) (best_is_best (held_after budget ps))
 
 -- ---- what the calls of an installation leave on the shelf
 
@@ -75,8 +83,7 @@ headline s c left torn status shelf shelf' text text' session datagrams at_end i
     let o : received c left torn ≡ outcome_of c left End over best = ap (λ e. outcome_of c left e over best) end in
     record {
       best = best;
-      greatest = subst (λ (objects : Objects). IsBestOf objects best)
-          (λ i t. whole_is_sent s c.budget ps t session (packets_are s c.tsi (datagrams_taken c left) datagrams) i) (best_is_best (held_after c.budget ps));
+      greatest = installed_is_best s c.budget ps session (packets_are s c.tsi (datagrams_taken c left) datagrams);
       installed = installs best shelf shelf' (shelved ∙ ap (λ (u : Outcome). after u.calls shelf) o);
       reported = written ∙ ap (λ (u : Outcome). text ++ u.text) o
           ∙ ap (λ l. text ++ (best_lines best ++ l)) (append-nil (over_line over));

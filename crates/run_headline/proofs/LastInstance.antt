@@ -13,15 +13,14 @@ use Rattle.carousel_cid.specs.declared.file_of.FileOf.{FileOf}
 use Rattle.carousel_cid.specs.declared.kind.Kind.TheVariants as kinds
 use Rattle.held_packets.specs.Held.{Held}
 use Rattle.held_packets.specs.Ready.{is_ready}
-use Rattle.held_packets.specs.Verdict.{held_after}
 use Rattle.held_packets.specs.KeptSet.{kept, gathered, set_count, sent_when_ready, ready_objects}
 use Rattle.held_packets.specs.Session.{AreOf}
-use Rattle.held_packets.proofs.Public.{all_kept, whole_is_sent}
+use Rattle.held_packets.proofs.Public.{all_kept}
 use Rattle.receiver_core.specs.Best.{Objects, IsBestOf, complete, file_of_kind, file_of, files_of, is_better}
 use Rattle.receiver_core.specs.BestOf.{installed_after}
 use Rattle.receiver_core.specs.Classes.{packets_of}
 use Rattle.receiver_core.proofs.Public.{complete_descriptor, complete_named, descriptor_of}
-use Rattle.receiver_core.proofs.Public.{best_is_best, one_best}
+use Rattle.receiver_core.proofs.Public.{one_best}
 use Rattle.sender_plan.specs.declared.params.Params.{Params}
 use Rattle.sender_plan.specs.CatalogInstance.{CatalogInstance}
 use Rattle.sender_plan.specs.Installed.{shown_of, Carries}
@@ -34,7 +33,7 @@ use Rattle.sender_schedule.specs.Schedule.{schedule}
 use Rattle.run_headline.specs.Headline.{IsDatagramOf}
 use Rattle.run_headline.specs.LastInstance.{IsReadyIn, AreReadyIn}
 use Rattle.run_headline.specs.SentSession.{objects_sent}
-use Rattle.run_headline.proofs.Headline.{packets_are}
+use Rattle.run_headline.proofs.Headline.{installed_is_best, packets_are}
 use Rattle.run_headline.proofs.SentSession.{session_is, all_of_session}
 
 -- ---- the objects that are ready
@@ -142,8 +141,7 @@ module _ (bodies : List (List ℕ)) (front : List CatalogInstance) (last : Catal
   last_is_installed budget ps are within ready =
       let objects : Objects = ready_objects (objects_sent s) (gathered (kept budget ps)) in
       one_best objects (installed_after budget ps) (Some shown)
-      (subst (λ (os : Objects). IsBestOf os (installed_after budget ps))
-      (λ i t. whole_is_sent (objects_sent s) budget ps t (session_is s plan.sound) are i) (best_is_best (held_after budget ps)))
+      (installed_is_best (objects_sent s) budget ps (session_is s plan.sound) are)
       (last_is_best budget ps are within ready)
 
   -- any datagrams of the schedule are packets of the session

@@ -2,4 +2,5 @@ pub mod DatagramBytes
 pub mod Headline
 pub mod LastInstance
 pub mod SentSession
+pub mod WithinBudget
 pub mod Public

@@ -1,3 +1,4 @@
 pub mod Headline
 pub mod LastInstance
 pub mod SentSession
+pub mod WithinBudget

@@ -1,14 +1,14 @@
 -- The numbers of what was published, and of what a reader is shown.
-use Rattle.std.proofs.Common.{◌≡◌, ℕ, ◌+◌, List, [], ◌∷◌, ◌++◌, ◌∙◌, sym, ap, arith, length, Option, append_assoc, length-append, suc, ◌-◌, ◌≤◌, refl, subst, map, Some, None, slice_get}
-use Rattle.std.specs.Prelude.{option_map, Contains, IfSome}
-use Rattle.std.proofs.lemmas.List.{append-nil}
-use Rattle.std.proofs.lemmas.List.Elements.{All-push}
+use Rattle.std.proofs.Common.{◌≡◌, ℕ, ◌+◌, List, [], ◌∷◌, ◌++◌, ◌∙◌, sym, ap, arith, length, Option, append_assoc, length-append, suc, ◌-◌, ◌≤◌, ◌<◌, refl, subst, map, take, drop, get_or, Some, None, slice_get}
+use Rattle.std.specs.Prelude.{option_map, All, Contains, IfSome}
+use Rattle.std.proofs.lemmas.List.{append-nil, get_or-map, length-map, take_more, take-append-drop}
+use Rattle.std.proofs.lemmas.List.Elements.{All-push, All-weaker}
 use Rattle.carousel_cid.specs.Instances.{Shown}
 use Rattle.snapshot_hub.specs.Histories.{last_of, one_above, height, IsRising}
 use Rattle.run_receive.specs.Events.{published}
-use Rattle.run_readers.specs.ReaderLines.{reader_line, reader_lines, MayNote, AreReaderLines}
+use Rattle.run_readers.specs.ReaderLines.{reader_line, reader_lines, MayNote, IsNotAbove, last_number, AreReaderLines}
 use mathlib.Core.List.{IsPrefix}
-use Rattle.snapshot_hub.proofs.Public.{height_grows}
+use Rattle.snapshot_hub.proofs.Public.{height_grows, last_snoc}
 use Rattle.run_readers.specs.Inner.Noted.{one_more}
 
 -- ---- the lines of readers
@@ -69,3 +69,32 @@ pub may_note : (o : Option ℕ) (numbers : List ℕ) (published : List Shown) �
     → IfSome o (λ n. Contains numbers n) → MayNote published o
 may_note None numbers published is holds = tt
 may_note (Some n) numbers published is holds = subst (λ ns. Contains ns n) is holds
+
+-- ---- no number is above the last
+
+-- a number below the height of what was published isn't above its last
+below_height : (number : ℕ) (last : Option Shown) → number + 1 ≤ one_above last → IsNotAbove (Some number) (option_map (λ i. i.number) last)
+below_height number None below = absurd (omega (arith, below))
+below_height number (Some i) below = omega (arith, below)
+
+-- each instance is one of a beginning that ends with it
+as_high_as_each : (published : List Shown) (i : ℕ) (d : Shown) → i < length published → IsRising published → (get_or published i d).number + 1 ≤ height published
+as_high_as_each published i d less rising =
+    let beginning = take i published ++ get_or published i d ∷ [] in
+    let begins : IsPrefix beginning published =
+    (drop (i + 1) published, ap (λ xs. xs ++ drop (i + 1) published) (sym (take_more published i d less)) ∙ take-append-drop (i + 1) published) in
+    omega (arith, ap one_above (last_snoc (take i published) (get_or published i d)), height_grows beginning published begins rising)
+
+not_above : (published : List Shown) (saw : Option ℕ) → IsRising published → MayNote published saw → IsNotAbove saw (last_number published)
+not_above published None rising may = tt
+not_above [] (Some number) rising may = absurd (omega (arith, may.1))
+not_above (i ∷ is) (Some number) rising may =
+    let all = i ∷ is in
+    let less : may.0 < length all = omega (arith, may.1, length-map all (λ (s : Shown). s.number)) in
+    let noted : (get_or all may.0 i).number ≡ number = sym (get_or-map (λ (s : Shown). s.number) all may.0 i number less) ∙ may.2 in
+    below_height number (last_of all) (omega (arith, noted, as_high_as_each all may.0 i less rising))
+
+pub none_above : (published : List Shown) (saw : List (Option ℕ)) → IsRising published → All (MayNote published) saw
+    → All (λ one. IsNotAbove one (last_number published)) saw
+none_above published saw rising may =
+    All-weaker (MayNote published) (λ one. IsNotAbove one (last_number published)) (λ one known. not_above published one rising known) saw may

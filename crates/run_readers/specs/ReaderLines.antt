@@ -1,5 +1,5 @@
 -- What a listening writes after its report: a line for each reader. Numbers are decimal.
-use Rattle.std.specs.Prelude.{◌≡◌, ℕ, ◌+◌, List, [], ◌∷◌, ◌++◌, length, map, All, Contains, Option, Some, None, option_map, codes}
+use Rattle.std.specs.Prelude.{◌≡◌, ℕ, ◌+◌, ◌≤◌, List, [], ◌∷◌, ◌++◌, length, map, All, Contains, Option, Some, None, option_map, codes}
 use Rattle.std.specs.Fmt.{decimal}
 use Rattle.carousel_cid.specs.Instances.{Shown}
 use Rattle.snapshot_hub.specs.Histories.{last_of}
@@ -25,12 +25,22 @@ abbrev pub MayNote : List Shown → Option ℕ → Type 0
 MayNote published None = Unit {0}
 MayNote published (Some number) = Contains (map (λ i. i.number) published) number
 
+-- none is above nothing, and a number is above none and above each lower one
+abbrev pub IsNotAbove : Option ℕ → Option ℕ → Type 0
+IsNotAbove None last = Unit {0}
+IsNotAbove (Some number) None = ⊥
+IsNotAbove (Some number) (Some last) = number ≤ last
+
+-- the number of the last of these
+abbrev pub last_number : List Shown → Option ℕ
+last_number published = option_map (λ i. i.number) (last_of published)
+
 -- the lines of so many readers beside a receiver that published these instances
 pub record AreReaderLines (published : List Shown) (readers : ℕ) (text : List ℕ) : Type 0 where
   pub saw : List (Option ℕ)
   pub count : length saw ≡ readers
   pub known : All (MayNote published) saw
-  pub is : text ≡ reader_lines 1 saw (option_map (λ i. i.number) (last_of published))
+  pub is : text ≡ reader_lines 1 saw (last_number published)
 
 -- the report and such lines are added
 pub record TellsReaders (published : List Shown) (readers : ℕ) (report old new : List ℕ) : Type 0 where

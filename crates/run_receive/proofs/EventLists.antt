@@ -46,6 +46,10 @@ chosen_instance : (b : Bool) (old : Option Shown) (i : Shown) → Decides b (old
 chosen_instance true old i decides other = absurd (other (sym (decides.0 refl)))
 chosen_instance false old i decides other = refl
 
+-- what is the same instance by its parts is the instance
+pub same_installed : (old : Option Shown) (i : Shown) → option_eq same_instance old (Some i) ≡ true → old ≡ Some i
+same_installed old i same = (option_decides instance_decides old (Some i)).0 same
+
 pub instance_is : (n : Option ℕ) (old new : Option Shown) → Announces n old new → when_another n new ≡ other_instance old new
 instance_is None old None announces = refl
 instance_is None old (Some i) announces = rw ((option_decides instance_decides old (Some i)).1 (sym announces)) refl

@@ -1,6 +1,7 @@
 pub mod ReportLast
 pub mod EventLists
 pub mod Installing
+pub mod Numbers
 pub mod Showing
 pub mod Spelled
 pub mod Statuses

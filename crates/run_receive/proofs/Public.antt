@@ -1,6 +1,7 @@
 -- What the proofs of other crates may cite.
 pub use Rattle.run_receive.proofs.EventLists.{events_are, events_further}
 pub use Rattle.run_receive.proofs.Installing.{after-append, part_all}
+pub use Rattle.run_receive.proofs.Numbers.{published_rising}
 pub use Rattle.run_receive.proofs.Showing.{last_shown, may_follow, not_older, nothing_published, one_longer, published_more, shown_all, shown_is, some_more}
 pub use Rattle.run_receive.proofs.Spelled.{are_bytes, packets_have}
 pub use Rattle.run_receive.proofs.Statuses.{base_listed, outcome_is}

@@ -1,7 +1,7 @@
 -- What an audience is shown of a list of datagrams.
 use Rattle.std.proofs.Common.{◌≡◌, ℕ, ◌+◌, ◌≤◌, List, [], ◌∷◌, ◌++◌, ◌∙◌, refl, sym, ap, subst, arith, length, take, map, Option, Some, None, length-append}
 use Rattle.std.specs.Prelude.{option_map}
-use Rattle.std.specs.List.{fold, cons_option}
+use Rattle.std.specs.List.{All, fold, cons_option}
 use Rattle.std.proofs.lemmas.List.{append-nil}
 use Rattle.std.proofs.lemmas.List.Elements.{All-append, All-cons, All-nil, filter_map-append}
 use Rattle.wire_bytes.specs.Bytes.{AreBytes}
@@ -38,17 +38,21 @@ some_more old new d bytes some more = record {
 }
 
 -- what is installed with one datagram more isn't older
+pub next_not_older : (tsi budget : ℕ) (ds : List (List ℕ)) (d : List ℕ) → All AreBytes ds → AreBytes d
+    → NotOlder (installed_after budget (packets_of tsi ds)) (installed_after budget (packets_of tsi (ds ++ d ∷ [])))
+next_not_older tsi budget ds d bytes one =
+    subst (λ ps. NotOlder (installed_after budget (packets_of tsi ds)) (installed_after budget ps)) (sym (filter_map-append (packet_under tsi) ds (d ∷ [])))
+    (never_back budget (packets_of tsi ds) (packets_of tsi (d ∷ []))
+    (packets_sound tsi ds bytes) (packets_sound tsi (d ∷ []) (All-cons AreBytes d [] one (All-nil AreBytes))))
+
 pub not_older : (r : Receiver) (d : List ℕ) → HasTakenSome r → AreBytes d → NotOlder r.installed (best (held_with r.tsi r.budget r.held d))
 not_older r d some bytes =
     let ds = some.datagrams in
-    let both : packets_of r.tsi (ds ++ d ∷ []) ≡ packets_of r.tsi ds ++ packets_of r.tsi (d ∷ []) = filter_map-append (packet_under r.tsi) ds (d ∷ []) in
-    let now : installed_after r.budget (packets_of r.tsi ds ++ packets_of r.tsi (d ∷ [])) ≡ best (held_with r.tsi r.budget r.held d) =
-    ap (installed_after r.budget) (sym both) ∙ ap best (sym (held_one_more r d ds some.has)) in
-    subst (NotOlder r.installed) now (subst (λ o. NotOlder o (installed_after r.budget (packets_of r.tsi ds ++ packets_of r.tsi (d ∷ [])))) (sym some.has.installed)
-    (never_back r.budget (packets_of r.tsi ds) (packets_of r.tsi (d ∷ []))
-    (packets_sound r.tsi ds some.bytes) (packets_sound r.tsi (d ∷ []) (All-cons AreBytes d [] bytes (All-nil AreBytes)))))
+    subst (NotOlder r.installed) (ap best (sym (held_one_more r d ds some.has)))
+    (subst (λ o. NotOlder o (installed_after r.budget (packets_of r.tsi (ds ++ d ∷ [])))) (sym some.has.installed)
+    (next_not_older r.tsi r.budget ds d some.bytes bytes))
 
-above : (old new : Option Shown) (i : Shown) → NotOlder old new → new ≡ Some i → one_above old ≤ i.number + 1
+pub above : (old new : Option Shown) (i : Shown) → NotOlder old new → new ≡ Some i → one_above old ≤ i.number + 1
 above None new i older is = omega arith
 above (Some j) None i older is = absurd older
 above (Some j) (Some k) i older is = let same : k ≡ i = cc in let number = ap (λ (x : Shown). x.number) same in omega (arith, older.0, number)
@@ -89,7 +93,7 @@ published_further tsi budget held (d ∷ ds) es =
     ∙ onto_both (published_with tsi budget held d) (published_from tsi budget (held_with tsi budget held d) ds)
     (published_from tsi budget (fold (step budget) held (packets_of tsi (d ∷ ds))) es)
 
-one_more : (tsi budget i : ℕ) (left : List (List ℕ)) (d : List ℕ) (held : Held) → held ≡ held_after budget (packets_of tsi (take i left))
+pub one_more : (tsi budget i : ℕ) (left : List (List ℕ)) (d : List ℕ) (held : Held) → held ≡ held_after budget (packets_of tsi (take i left))
     → take (i + 1) left ≡ take i left ++ d ∷ []
     → published_of tsi budget (take (i + 1) left) ≡ with_option (published_of tsi budget (take i left)) (published_with tsi budget held d)
 unfolding published_of

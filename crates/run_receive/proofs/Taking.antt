@@ -41,7 +41,7 @@ drops_more budget held None ps = omega arith
 drops_more budget held (Some p) ps = refl
 
 -- the same, at the end of a list of datagrams
-held_at_end : (tsi budget : ℕ) (held : Held) (ds : List (List ℕ)) (d : List ℕ)
+pub held_at_end : (tsi budget : ℕ) (held : Held) (ds : List (List ℕ)) (d : List ℕ)
     → fold (step budget) held (packets_of tsi (ds ++ d ∷ [])) ≡ held_with tsi budget (fold (step budget) held (packets_of tsi ds)) d
 held_at_end tsi budget held [] d = held_more budget held (packet_under tsi d) []
 held_at_end tsi budget held (e ∷ ds) d =

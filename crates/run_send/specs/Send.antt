@@ -14,7 +14,8 @@ use Rattle.sender_plan.specs.declared.fault.PlanFault.TheVariants.{NumberNotRisi
 use Rattle.sender_plan.specs.declared.params.Params as params
 use Rattle.sender_schedule.specs.Schedule.{schedule}
 use Rattle.run_base.specs.Outcome.{Outcome, Uses, Once, text_outcome}
-use Rattle.run_base.specs.Texts.{labelled, line}
+use Rattle.watch_list.specs.EventLines.{labelled}
+use Rattle.run_base.specs.Texts.{line}
 use Rattle.run_base.specs.declared.status.Status.{Status}
 use Rattle.run_base.specs.declared.status.Status.TheVariants as statuses
 use Rattle.run_send.specs.declared.sending.Sending.{Sending}

@@ -5,7 +5,7 @@ ghost use Rattle.sender_plan.specs.Session.{Session, IsSession};
 ghost use Rattle.run_base.specs.Answers.{Blames, LeavesNothing, LeavesSink, LeavesText};
 ghost use Rattle.run_base.specs.Outcome.{Once};
 ghost use Rattle.run_base.specs.Statuses.{is_one_of, leaves_sink};
-ghost use Rattle.run_base.specs.Texts.{labelled};
+ghost use Rattle.watch_list.specs.EventLines.{labelled};
 ghost use Rattle.run_base.specs.declared.status.Status.TheVariants.{Done, Missing};
 ghost use Rattle.run_send.specs.Send.{asked, sent, session_asked, send_statuses, refusal_line, refusal_status, refusal_text};
 ghost use Rattle.run_send.specs.Ranges.{AreParams};

@@ -1,14 +1,13 @@
 -- The fields of a line.
-use Rattle.std.proofs.Common.{◌≡◌, ℕ, ◌<◌, Bool, true, false, not, ◌||◌, ◌==◌, ◌&&◌, cond, List, [], ◌∷◌, length, refl, sym, ap, ◌∙◌, arith, reverse}
+use Rattle.std.proofs.Common.{◌≡◌, ℕ, ◌<◌, Bool, true, false, not, ◌||◌, ◌==◌, cond, List, [], ◌∷◌, length, refl, sym, ap, ◌∙◌, arith, reverse}
 use Rattle.std.specs.List.{onto_first, list_all, AllByRecursion}
 use Rattle.std.specs.Str.{IsUtf8, is_utf8, bytes_eq}
 use Rattle.std.proofs.lemmas.Bool.{and_parts, or_parts, false_from_ne_true}
 use Rattle.std.proofs.lemmas.List.{reverse-reverse}
 use Rattle.std.proofs.lemmas.List.Splits.{length-slice_split}
 use Rattle.std.proofs.lemmas.Slice.Eq.{bytes_eq-Decides}
-use Rattle.std.proofs.lemmas.Str.{is_utf8-from_IsUtf8}
 use Rattle.meta_text.specs.Text.{is_value_byte, is_clean, without_leading, trimmed, IsValue}
-use Rattle.meta_text.proofs.Public.{all_reversed}
+use Rattle.meta_text.proofs.Public.{all_reversed, clean_text}
 use Rattle.sender_plan.specs.CatalogLine.{is_tab, fields_of, instance_word, file_word, is_instance, is_file, begins_with_space, is_bad_text}
 use Rattle.sender_plan.specs.Inner.Lines.{is_no_tab, IsField}
 
@@ -43,9 +42,6 @@ pub unlike : (a b : List ℕ) → ¬ (a ≡ b) → bytes_eq a b ≡ false
 unlike a b differ = false_from_ne_true (bytes_eq a b) (λ same. differ ((bytes_eq-Decides a b).0 same))
 
 -- ---- a text that is UTF-8 is clean by its bytes
-
-clean_by_bytes : (text : List ℕ) → IsUtf8 text → list_all is_value_byte text ≡ is_clean text
-clean_by_bytes text utf8 = ap (λ t. t && list_all is_value_byte text) (sym (is_utf8-from_IsUtf8 text utf8))
 
 pub clean_bytes : (text : List ℕ) → is_clean text ≡ true → list_all is_value_byte text ≡ true
 clean_bytes text clean = (and_parts (is_utf8 text) (list_all is_value_byte text) clean).1
@@ -85,4 +81,4 @@ field_is_value (b ∷ bs) utf8 field good =
     let front : without_leading text ≡ text = stays text field.whole bare.0 in
     let back : without_leading (reverse text) ≡ reverse text = stays (reverse text) (all_reversed is_no_tab text field.whole) bare.1 in
     let ends : trimmed text ≡ text = ap (λ (ys : List ℕ). reverse (without_leading (reverse ys))) front ∙ ap reverse back ∙ reverse-reverse text in
-    (omega arith, record { clean = sym (clean_by_bytes text utf8) ∙ field.clean; ends = ends })
+    (omega arith, record { clean = sym (clean_text text utf8) ∙ field.clean; ends = ends })

@@ -1,7 +1,6 @@
 //! Receiving, over forms in memory.
 
 mod budgets;
-mod failures;
 mod recvs;
 mod replays;
 mod rows;

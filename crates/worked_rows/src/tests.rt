@@ -8,5 +8,6 @@ mod rows;
 mod same;
 mod sessions;
 mod station;
+mod told;
 mod watched;
 mod watchers;

@@ -2,7 +2,7 @@
 //! the drill itself.
 
 use crate::deliveries::{deliveries, next, row_steps};
-use crate::sending::{NONE, Sent, send};
+use crate::sending::{Sent, send};
 use crate::texts::push_parts;
 use std::alloc::{AllocError, Global};
 
@@ -81,7 +81,7 @@ fn send_drawn(alloc: Global, drawn: &[Vec<u8>]) -> Result<Sent, AllocError> {
     for (location, bytes) in LOCATIONS.iter().zip(drawn) {
         files.push((*location, bytes.as_slice()))?;
     }
-    send(alloc, &WORDS, files.as_slice(), NONE)
+    send(alloc, &WORDS, files.as_slice())
 }
 
 /// How many datagrams of a drill are sent and delivered, and the row steps that these take.

@@ -3,6 +3,7 @@
 
 pub mod deliveries;
 pub mod drawn;
+pub mod given;
 pub mod logs;
 pub mod objects;
 pub mod packets;

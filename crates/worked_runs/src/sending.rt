@@ -9,21 +9,6 @@ use watch_list::Watch;
 /// The outside in memory, around this sink.
 pub type SendEdge<E> = Edge<SureDatagrams, E, MemFiles, SureShelf, MemText>;
 
-/// The calls of each device that are to fail, counted from 1.
-#[derive(Clone, Copy)]
-pub struct SendFailing<'a> {
-    pub files: &'a [u32],
-    pub emit: &'a [u32],
-    pub text: &'a [u32],
-}
-
-/// No call fails.
-pub const NONE: SendFailing<'static> = SendFailing {
-    files: &[],
-    emit: &[],
-    text: &[],
-};
-
 /// How a send ended.
 #[derive(Drop)]
 pub struct Sent {
@@ -32,17 +17,22 @@ pub struct Sent {
 }
 
 /// Runs these words over these files.
-pub fn send(
+pub fn send(alloc: Global, words: &[&str], files: &[(&str, &[u8])]) -> Result<Sent, AllocError> {
+    let emit = MemEmit::new(Vec::new(alloc), Vec::new(alloc));
+    let mut edge = edge_of(alloc, files, emit)?;
+    let status = run_words(alloc, words, &mut edge)?;
+    Ok(Sent { status, edge })
+}
+
+/// Runs these words over these files, by this sink, and says the status.
+pub fn send_by<E: Emit + Drop>(
     alloc: Global,
     words: &[&str],
     files: &[(&str, &[u8])],
-    failing: SendFailing<'_>,
-) -> Result<Sent, AllocError> {
-    let fails = Vec::from_slice(alloc, failing.emit)?;
-    let emit = MemEmit::new(Vec::new(alloc), fails);
-    let mut edge = edge_of(alloc, files, failing, emit)?;
-    let status = run_words(alloc, words, &mut edge)?;
-    Ok(Sent { status, edge })
+    emit: E,
+) -> Result<u8, AllocError> {
+    let mut edge = edge_of(alloc, files, emit)?;
+    run_words(alloc, words, &mut edge)
 }
 
 /// Whether these are the first of those datagrams.
@@ -62,7 +52,7 @@ pub fn sent_log(
     files: &[(&str, &[u8])],
 ) -> Result<Vec<u8>, AllocError> {
     let log = MemText::new(Vec::new(alloc), Vec::new(alloc));
-    let mut edge = edge_of(alloc, files, NONE, LogWriter::new(alloc, log))?;
+    let mut edge = edge_of(alloc, files, LogWriter::new(alloc, log))?;
     match run_words(alloc, words, &mut edge)? {
         0 => Vec::from_slice(alloc, edge.emit.sink.written()),
         _ => Ok(Vec::new(alloc)),
@@ -72,18 +62,15 @@ pub fn sent_log(
 fn edge_of<E: Emit + Drop>(
     alloc: Global,
     files: &[(&str, &[u8])],
-    failing: SendFailing<'_>,
     emit: E,
 ) -> Result<SendEdge<E>, AllocError> {
     let files = files_of(alloc, files)?;
-    let fails = Vec::from_slice(alloc, failing.files)?;
-    let text = Vec::from_slice(alloc, failing.text)?;
     Ok(Edge {
         datagrams: SureDatagrams::new(Vec::new(alloc), None),
         emit,
-        files: MemFiles::new(files, fails),
+        files: MemFiles::new(files, Vec::new(alloc)),
         shelf: SureShelf::new(alloc, None),
-        text: MemText::new(Vec::new(alloc), text),
+        text: MemText::new(Vec::new(alloc), Vec::new(alloc)),
     })
 }
 

@@ -3,7 +3,7 @@ use Rattle.std.specs.Prelude.{ℕ, ◌==◌, nat_le, if◌then◌else◌, List, 
 use Rattle.std.specs.List.{list_any, slice_split}
 use Rattle.meta_text.specs.Text.{is_empty}
 use Rattle.carousel_cid.specs.IdentifierList.{comma}
-use Rattle.carousel_cid.specs.Inner.Listing.{is_comma}
+use Rattle.carousel_cid.specs.Listing.{is_comma}
 
 -- the texts from a place on at which one starts; none behind the end
 unfoldable pub texts_from : ℕ → List ℕ → List (List ℕ)

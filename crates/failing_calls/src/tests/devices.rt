@@ -1,6 +1,6 @@
 //! The devices around a run, of which one fails at one call.
 
-ghost use Rattle.std.specs.Prelude.{◌≤◌, All, IfOk, vec_len};
+ghost use Rattle.std.specs.Prelude.{◌≤◌, All, IfOk};
 
 use edge_io::{
     Calls, Datagrams, Emit, FinishedInstance, LogReader, LogWriter, MemBytes, MemDatagrams,
@@ -9,6 +9,7 @@ use edge_io::{
 use fcast_run::{Edge, run};
 use std::alloc::{AllocError, Global};
 use watch_list::Watch;
+use worked_runs::given::{named, short};
 use worked_runs::playing::labels_of;
 
 /// A device whose calls are counted.
@@ -159,16 +160,6 @@ pub fn outside<D: Datagrams + Drop, E: Emit + Drop>(
     })
 }
 
-/// Files of these names.
-pub fn named(alloc: Global, files: &[(&str, &[u8])]) -> Result<Vec<(String, Vec<u8>)>, AllocError> {
-    let mut named = Vec::new(alloc);
-    for (name, bytes) in files {
-        let name = String::from_str(alloc, name)?;
-        named.push((name, Vec::from_slice(alloc, bytes)?))?;
-    }
-    Ok(named)
-}
-
 /// Runs these words.
 pub fn run_words<D: Datagrams + Drop, E: Emit + Drop>(
     alloc: Global,
@@ -222,29 +213,4 @@ pub fn source(
 ) -> Result<MemDatagrams, AllocError> {
     let fails = failing.calls_of(alloc, Device::Source)?;
     Ok(MemDatagrams::new(short(alloc, datagrams)?, None, fails))
-}
-
-/// A copy of those of the datagrams that a device takes.
-pub fn short(alloc: Global, datagrams: &[Vec<u8>]) -> Result<Vec<Vec<u8>>, AllocError>
-    ensures { IfOk result (λ v. All (λ d. vec_len d ≤ 65535) v.items) }
-{
-    let mut copies = Vec::new(alloc);
-    push_short(alloc, &mut copies, datagrams)?;
-    Ok(copies)
-}
-
-fn push_short(
-    alloc: Global,
-    copies: &mut Vec<Vec<u8>>,
-    datagrams: &[Vec<u8>],
-) -> Result<(), AllocError>
-    requires { All (λ d. vec_len d ≤ 65535) copies.old.items }
-    ensures { All (λ d. vec_len d ≤ 65535) copies.new.items }
-{
-    for datagram in datagrams {
-        if datagram.len() <= 65_535 {
-            copies.push(Vec::from_slice(alloc, datagram.as_slice())?)?;
-        }
-    }
-    Ok(())
 }

@@ -131,6 +131,29 @@ fn a_log(rt: HostRuntime) -> Result<(), Fail> {
     Ok(())
 }
 
+/// The log of an empty instance, read byte by byte: its 70 bytes, and the end.
+#[test]
+fn a_log_of_one_datagram(rt: HostRuntime) -> Result<(), Fail> {
+    let log = log_of_copies(rt.alloc(), 1)?;
+    let single = Log {
+        bytes: log.as_slice(),
+        one_by_one: true,
+    };
+    for call in 1..=71u32 {
+        let failing = fails(Source, call);
+        plays(
+            &rt,
+            rt.alloc(),
+            &["replay"],
+            single,
+            failing,
+            &at_source(call),
+            9,
+        )?;
+    }
+    Ok(())
+}
+
 /// The datagrams of the file, which take so many calls, with each call of each device failing in turn.
 fn fails_over_datagrams(
     rt: &impl Abort,

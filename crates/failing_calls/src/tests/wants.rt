@@ -1,7 +1,7 @@
 //! Calls for which there is no memory.
 
 use super::devices::Device::{self, Files, Shelf, Sink, Text};
-use super::devices::{Failing, NONE, OLD, fails, named, old_instance};
+use super::devices::{Failing, NONE, OLD, fails, old_instance};
 use super::left::Held;
 use super::same::same;
 use super::sending::{CATALOG, HI, SEND};
@@ -12,6 +12,7 @@ use std::alloc::{AllocError, Global};
 use std::process::Abort;
 use std::test::Fail;
 use watch_list::{Diary, Watch};
+use worked_runs::given::named;
 use worked_runs::logs::{log_of_copies, log_of_packets};
 use worked_runs::pieces::Piece::{File, List};
 use worked_runs::pieces::{ALL, packets_of};

@@ -9,7 +9,7 @@ use std::test::Fail;
 use std::thread::Threads;
 use std::time::Clock;
 use worked_runs::logs::log_of_copies;
-use worked_runs::playing::{Failing, MemEdge, NONE, REPORT_OF_1, edge_of, labels_of};
+use worked_runs::playing::{MemEdge, NONE, REPORT_OF_1, edge_of, labels_of};
 
 /// How a run of `listen` ended.
 #[derive(Drop)]
@@ -24,10 +24,9 @@ fn listen<R: Threads + Wait + Clock + Copy + Send + 'static>(
     alloc: Global,
     words: &[&str],
     log: &[u8],
-    failing: Failing<'_>,
 ) -> Result<Listened, AllocError> {
     let labels = labels_of(alloc, words)?;
-    let mut edge = edge_of(alloc, log, false, failing)?;
+    let mut edge = edge_of(alloc, log, false, NONE)?;
     let mut watchers = Vec::new(alloc);
     let gate = Arc::new(alloc, Wide)?;
     let status = run_listen(
@@ -47,11 +46,10 @@ fn ends_with<R: Threads + Wait + Abort + Clock + Copy + Send + 'static>(
     alloc: Global,
     words: &[&str],
     log: &[u8],
-    failing: Failing<'_>,
     wanted: (u8, &str),
     row: u32,
 ) -> Result<(), AllocError> {
-    let listened = listen(rt, alloc, words, log, failing)?;
+    let listened = listen(rt, alloc, words, log)?;
     let (status, text) = wanted;
     same(rt, &listened.status, &status, row);
     same(rt, &listened.edge.text.written(), &text.as_bytes(), row);
@@ -86,7 +84,7 @@ fn has_two_look<R: Threads + Wait + Abort + Clock + Copy + Send + 'static>(
     log: &[u8],
     row: u32,
 ) -> Result<(), AllocError> {
-    let listened = listen(rt, alloc, words, log, NONE)?;
+    let listened = listen(rt, alloc, words, log)?;
     same(rt, &listened.status, &0, row);
     same(rt, &is_of_two(listened.edge.text.written()), &true, row);
     let finished = listened.edge.shelf.finished();
@@ -126,27 +124,11 @@ fn a_reader_has_a_line(rt: HostRuntime) -> Result<(), Fail> {
     let alloc = rt.alloc();
     let nothing = log_of_copies(alloc, 0)?;
     let text = "nothing installed\nreader 1 saw none last none\n";
-    ends_with(
-        &rt,
-        alloc,
-        &["listen"],
-        nothing.as_slice(),
-        NONE,
-        (2, text),
-        11,
-    )?;
+    ends_with(&rt, alloc, &["listen"], nothing.as_slice(), (2, text), 11)?;
     let mut torn = log_of_copies(alloc, 1)?;
     torn.truncate(40);
     let text = "nothing installed\ntorn at 8\nreader 1 saw none last none\n";
-    ends_with(
-        &rt,
-        alloc,
-        &["listen"],
-        torn.as_slice(),
-        NONE,
-        (3, text),
-        12,
-    )?;
+    ends_with(&rt, alloc, &["listen"], torn.as_slice(), (3, text), 12)?;
     Ok(())
 }
 
@@ -159,48 +141,9 @@ fn lines_of(text: &[u8]) -> usize {
 fn each_of_sixteen_has_a_line(rt: HostRuntime) -> Result<(), Fail> {
     let log = log_of_copies(rt.alloc(), 0)?;
     let words = ["listen", "--readers", "16"];
-    let listened = listen(&rt, rt.alloc(), &words, log.as_slice(), NONE)?;
+    let listened = listen(&rt, rt.alloc(), &words, log.as_slice())?;
     same(&rt, &listened.status, &2, 21);
     same(&rt, &lines_of(listened.edge.text.written()), &17, 22);
-    Ok(())
-}
-
-/// Devices that fail, with the status and the text. Of the text the report fails, and then the lines.
-const FAILING: [(u32, Failing<'static>, (u8, &str)); 4] = [
-    (31, Failing { text: &[1], ..NONE }, (5, "")),
-    (32, Failing { text: &[2], ..NONE }, (5, REPORT_OF_1)),
-    (
-        33,
-        Failing {
-            bytes: &[1],
-            ..NONE
-        },
-        (4, ""),
-    ),
-    (
-        34,
-        Failing {
-            shelf: &[1],
-            ..NONE
-        },
-        (6, ""),
-    ),
-];
-
-#[test]
-fn devices_that_fail(rt: HostRuntime) -> Result<(), Fail> {
-    let log = log_of_copies(rt.alloc(), 1)?;
-    for (row, failing, wanted) in FAILING {
-        ends_with(
-            &rt,
-            rt.alloc(),
-            &["listen"],
-            log.as_slice(),
-            failing,
-            wanted,
-            row,
-        )?;
-    }
     Ok(())
 }
 
@@ -216,15 +159,7 @@ fn other_words_are_no_listening(rt: HostRuntime) -> Result<(), Fail> {
     let log = log_of_copies(rt.alloc(), 1)?;
     let usage = "usage: replay, recv, send, dump, drill or listen\n";
     for (row, words) in OTHER_WORDS {
-        ends_with(
-            &rt,
-            rt.alloc(),
-            words,
-            log.as_slice(),
-            NONE,
-            (1, usage),
-            row,
-        )?;
+        ends_with(&rt, rt.alloc(), words, log.as_slice(), (1, usage), row)?;
     }
     Ok(())
 }

@@ -9,7 +9,7 @@ use std::alloc::{AllocError, Global};
 use std::process::Abort;
 use std::test::Fail;
 use worked_runs::playing::labels_of;
-use worked_runs::sending::{NONE, send};
+use worked_runs::sending::send;
 
 /// The words that send a catalog.
 const SEND: [&str; 3] = ["send", "--catalog", "c"];
@@ -32,7 +32,7 @@ fn sends_nothing(
     row: u32,
 ) -> Result<(), AllocError> {
     let catalog = of_one_file(alloc, "instance\t1\ninstance\t2\n", count)?;
-    let sent = send(alloc, &SEND, &[("c", catalog.as_bytes())], NONE)?;
+    let sent = send(alloc, &SEND, &[("c", catalog.as_bytes())])?;
     let (status, line) = wanted;
     let text = sent.edge.text.written();
     same(rt, &(sent.status, text), &(status, line.as_bytes()), row);

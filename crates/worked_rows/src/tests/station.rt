@@ -7,8 +7,8 @@ use std::process::Abort;
 use std::test::Fail;
 use watch_list::Event;
 use worked_runs::logs::log_of_packets;
-use worked_runs::playing::{Failing, NONE as NO_FAILURE, Outcome, is, play};
-use worked_runs::sending::{NONE, send};
+use worked_runs::playing::{Failing, NONE, Outcome, is, play};
+use worked_runs::sending::send;
 
 /// A page; a page and a picture; a changed page, the picture, and a program.
 const CATALOG: &[u8] = b"instance\t1\nfile\tpage\tindex.html\ttext/html\n\
@@ -50,7 +50,7 @@ impl Station {
             ("changed", self.changed.as_slice()),
             ("program", self.program.as_slice()),
         ];
-        let sent = send(alloc, &["send", "--catalog", "c"], &files, NONE)?;
+        let sent = send(alloc, &["send", "--catalog", "c"], &files)?;
         copied(alloc, sent.edge.emit.sent())
     }
 }
@@ -125,7 +125,7 @@ fn installs_3(
 fn stops_at_the_second_file(rt: &impl Abort, alloc: Global, log: &[u8]) -> Result<(), AllocError> {
     let failing = Failing {
         shelf: &[3],
-        ..NO_FAILURE
+        ..NONE
     };
     let ran = play(alloc, &["replay"], log, false, failing)?;
     let shelf = &ran.edge.shelf;

@@ -5,7 +5,7 @@ use std::alloc::{AllocError, Global};
 use std::process::Abort;
 use std::test::Fail;
 use worked_runs::logs::{EMPTY_INSTANCE_DATAGRAM, log_of, log_of_copies};
-use worked_runs::playing::{Failing, NONE, play};
+use worked_runs::playing::{NONE, play};
 use worked_runs::texts::joined;
 
 /// The line of the empty instance's datagram, but for its place.
@@ -18,13 +18,12 @@ fn ends_with(
     alloc: Global,
     words: &[&str],
     log: &[u8],
-    failing: Failing<'_>,
     wanted: (u8, &[&str]),
     row: u32,
 ) -> Result<(), AllocError> {
     let (status, texts) = wanted;
     let text = joined(alloc, texts)?;
-    let ran = play(alloc, words, log, false, failing)?;
+    let ran = play(alloc, words, log, false, NONE)?;
     same(rt, &ran.status, &status, row);
     same(rt, &ran.edge.text.written(), &text.as_bytes(), row);
     same(rt, &ran.edge.shelf.finished().is_none(), &true, row);
@@ -39,7 +38,7 @@ fn dumps(
     wanted: (u8, &[&str]),
     row: u32,
 ) -> Result<(), AllocError> {
-    ends_with(rt, alloc, &["dump"], log, NONE, wanted, row)
+    ends_with(rt, alloc, &["dump"], log, wanted, row)
 }
 
 #[test]
@@ -75,28 +74,11 @@ fn other_datagrams(rt: HostRuntime) -> Result<(), Fail> {
     Ok(())
 }
 
-/// More datagrams than may be; the second line fails; and the read of the second datagram's length fails.
 #[test]
-fn ends_in_the_middle(rt: HostRuntime) -> Result<(), Fail> {
-    let alloc = rt.alloc();
-    let log = log_of_copies(alloc, 2)?;
-    let log = log.as_slice();
-    let too_many: (u8, &[&str]) = (11, &["0", LINE, "too many datagrams\n"]);
-    ends_with(
-        &rt,
-        alloc,
-        &["dump", "--most", "1"],
-        log,
-        NONE,
-        too_many,
-        21,
-    )?;
-    let text = Failing { text: &[2], ..NONE };
-    ends_with(&rt, alloc, &["dump"], log, text, (5, &["0", LINE]), 22)?;
-    let bytes = Failing {
-        bytes: &[4],
-        ..NONE
-    };
-    ends_with(&rt, alloc, &["dump"], log, bytes, (4, &["0", LINE]), 23)?;
+fn more_datagrams_than_may_be(rt: HostRuntime) -> Result<(), Fail> {
+    let log = log_of_copies(rt.alloc(), 2)?;
+    let words = ["dump", "--most", "1"];
+    let wanted: (u8, &[&str]) = (11, &["0", LINE, "too many datagrams\n"]);
+    ends_with(&rt, rt.alloc(), &words, log.as_slice(), wanted, 21)?;
     Ok(())
 }

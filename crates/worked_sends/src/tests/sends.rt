@@ -8,7 +8,7 @@ use std::test::Fail;
 use worked_runs::logs::{EMPTY_INSTANCE_DATAGRAM, log_of, log_of_packets};
 use worked_runs::packets::zeros;
 use worked_runs::pieces::{ALL, packets_of};
-use worked_runs::sending::{NONE, SendFailing, Sent, are_first, send, sent_log};
+use worked_runs::sending::{Sent, are_first, send, sent_log};
 
 /// An instance with one file.
 const ONE_FILE: (&str, &[u8]) = ("c", b"instance\t1\nfile\tf\ta\n");
@@ -47,32 +47,27 @@ fn sends(
     wanted: (u8, usize, &str),
     row: u32,
 ) -> Result<(), AllocError> {
-    let sent = send(alloc, words, files, NONE)?;
+    let sent = send(alloc, words, files)?;
     let (status, count, text) = wanted;
     same(rt, &ended(&sent), &(status, count, text.as_bytes()), row);
     Ok(())
 }
 
-/// The file is sent with devices that fail so, which ends with this status after so many datagrams.
-fn sends_hi(
-    rt: &impl Abort,
-    alloc: Global,
-    failing: SendFailing<'_>,
-    wanted: (u8, usize),
-    row: u32,
-) -> Result<(), AllocError> {
-    let expected = packets_of(alloc, &ALL)?;
-    let sent = send(alloc, &SMALL, &[ONE_FILE, HI], failing)?;
-    let (status, count) = wanted;
-    same(rt, &ended(&sent), &(status, count, b"".as_slice()), row);
-    let datagrams = sent.edge.emit.sent();
-    same(rt, &are_first(datagrams, expected.as_slice()), &true, row);
-    Ok(())
+/// Six datagrams are those of the file and its first descriptor.
+fn are_six(rt: &impl Abort, six: Option<&[Vec<u8>]>, once: &[Vec<u8>], row: u32) {
+    let alike = match six {
+        Some(six) => are_first(six, once),
+        None => false,
+    };
+    same(rt, &alike, &true, row);
 }
 
 #[test]
 fn a_file_is_sent(rt: HostRuntime) -> Result<(), Fail> {
-    sends_hi(&rt, rt.alloc(), NONE, (0, 6), 1)?;
+    let expected = packets_of(rt.alloc(), &ALL)?;
+    let sent = send(rt.alloc(), &SMALL, &[ONE_FILE, HI])?;
+    same(&rt, &ended(&sent), &(0, 6, b"".as_slice()), 1);
+    are_six(&rt, sent.edge.emit.sent().get(0..6), expected.as_slice(), 2);
     Ok(())
 }
 
@@ -139,20 +134,11 @@ const TWO_CYCLES: [&str; 11] = [
 /// Two instances that share a file.
 const SHARED: (&str, &[u8]) = ("c", b"instance\t1\nfile\tf\ta\ninstance\t2\nfile\tf\ta\n");
 
-/// Six datagrams are those of the file and its first descriptor.
-fn are_six(rt: &impl Abort, six: Option<&[Vec<u8>]>, once: &[Vec<u8>], row: u32) {
-    let alike = match six {
-        Some(six) => are_first(six, once),
-        None => false,
-    };
-    same(rt, &alike, &true, row);
-}
-
 #[test]
 fn two_instances_share_a_file(rt: HostRuntime) -> Result<(), Fail> {
     let alloc = rt.alloc();
     // Each cycle of an instance has the three symbols of its descriptor and the three of the file.
-    let sent = send(alloc, &TWO_CYCLES, &[SHARED, HI], NONE)?;
+    let sent = send(alloc, &TWO_CYCLES, &[SHARED, HI])?;
     same(&rt, &ended(&sent), &(0, 24, b"".as_slice()), 21);
     let once = packets_of(alloc, &ALL)?;
     let datagrams = sent.edge.emit.sent();
@@ -254,7 +240,7 @@ const TO_AN_ADDRESS: [&str; 7] = [
 
 #[test]
 fn the_address_is_connected(rt: HostRuntime) -> Result<(), Fail> {
-    let sent = send(rt.alloc(), &TO_AN_ADDRESS, &[ONE_FILE, HI], NONE)?;
+    let sent = send(rt.alloc(), &TO_AN_ADDRESS, &[ONE_FILE, HI])?;
     same(&rt, &sent.status, &0, 51);
     let address = Place::Udp {
         ip: [127, 0, 0, 1],
@@ -277,40 +263,5 @@ fn other_words_of_send(rt: HostRuntime) -> Result<(), Fail> {
     for (row, words) in OTHER_WORDS {
         sends(&rt, rt.alloc(), words, &[ONE_FILE, HI], (1, 0, usage), row)?;
     }
-    Ok(())
-}
-
-/// This call of the sink fails: the first is `connect`, and then come six datagrams.
-fn fails_at_sink(rt: &impl Abort, alloc: Global, call: u32) -> Result<(), AllocError> {
-    let failing = SendFailing {
-        emit: &[call],
-        ..NONE
-    };
-    let count = call.saturating_sub(2) as usize;
-    let row = 70u32.saturating_add(call);
-    sends_hi(rt, alloc, failing, (5, count), row)
-}
-
-/// This call of the files fails.
-fn fails_at_files(rt: &impl Abort, alloc: Global, call: u32) -> Result<(), AllocError> {
-    let failing = SendFailing {
-        files: &[call],
-        ..NONE
-    };
-    let row = 80u32.saturating_add(call);
-    sends_hi(rt, alloc, failing, (12, 0), row)
-}
-
-#[test]
-fn devices_that_fail(rt: HostRuntime) -> Result<(), Fail> {
-    let alloc = rt.alloc();
-    for call in 1..=7u32 {
-        fails_at_sink(&rt, alloc, call)?;
-    }
-    fails_at_files(&rt, alloc, 1)?;
-    fails_at_files(&rt, alloc, 2)?;
-    let failing = SendFailing { text: &[1], ..NONE };
-    let sent = send(alloc, &SMALL, &[ONE_FILE], failing)?;
-    same(&rt, &ended(&sent), &(5, 0, b"".as_slice()), 91);
     Ok(())
 }

@@ -1,6 +1,6 @@
 use Rattle.std.proofs.Common.{◌+◌, sym, ap, ◌∙◌}
 use Rattle.std.proofs.lemmas.List.{take_rest}
-use Rattle.carousel_cid.specs.Inner.Listing.{identifier_in, one_entry, range_entry}
+use Rattle.carousel_cid.specs.Listing.{identifier_in, one_entry, range_entry}
 use Rattle.carousel_cid.proofs.Entries.{entry_one, entry_range}
 use Rattle.carousel_cid.proofs.entry.read_entry.Goals as goal
 

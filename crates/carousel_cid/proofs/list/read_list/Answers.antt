@@ -2,7 +2,7 @@ use Rattle.std.proofs.Common.{rules, ◌≡◌, ◌+◌, [], ◌∷◌, length, 
 use Rattle.std.specs.Prelude.{IfSome}
 use Rattle.carousel_cid.specs.Repeats.{first_places}
 use Rattle.carousel_cid.specs.IdentifierList.{identifiers_of}
-use Rattle.carousel_cid.specs.Inner.Listing.{bad_place, count_in, identifiers_in}
+use Rattle.carousel_cid.specs.Listing.{bad_place, count_in, identifiers_in}
 use Rattle.carousel_cid.specs.Inner.Walks.{texts_from, added_all}
 use Rattle.carousel_cid.proofs.Texts.{texts_none, texts_all, from_past, bad_at, count_on, kept_walk_on, walked}
 use Rattle.carousel_cid.proofs.Kept.{kept_first}

@@ -3,7 +3,7 @@ use Rattle.std.proofs.Common.{◌≡◌, ◌+◌, ◌-◌, ◌≤◌, [], length
 use Rattle.std.specs.Prelude.{IfSome}
 use Rattle.std.specs.List.{AllByRecursion}
 use Rattle.carousel_cid.specs.IdentifierList.{identifiers_of}
-use Rattle.carousel_cid.specs.Inner.Listing.{bad_place, count_in, identifiers_in}
+use Rattle.carousel_cid.specs.Listing.{bad_place, count_in, identifiers_in}
 use Rattle.carousel_cid.specs.Inner.Runs.{IsRun, AreSeen}
 use Rattle.carousel_cid.specs.Inner.Walks.{texts_from, added_all}
 use Rattle.carousel_cid.proofs.list.read_list.Given as goal

@@ -1,7 +1,7 @@
 use Rattle.std.proofs.Common.{sym, ap, ◌∙◌}
 use Rattle.std.specs.Prelude.{position}
 use Rattle.std.proofs.lemmas.List.{take_rest}
-use Rattle.carousel_cid.specs.Inner.Listing.{is_comma}
+use Rattle.carousel_cid.specs.Listing.{is_comma}
 use Rattle.carousel_cid.proofs.Texts.{first_text, last_text}
 use Rattle.carousel_cid.proofs.list.text_at.Goals as goal
 

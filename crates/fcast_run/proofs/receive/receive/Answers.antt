@@ -6,7 +6,7 @@ use Rattle.run_base.specs.Answers.{AfterTaking, LeavesText, LeavesShelf}
 use Rattle.run_base.specs.Outcome.{Outcome, Once}
 use Rattle.run_base.specs.Tellings.{Tells}
 use Rattle.run_base.specs.declared.status.Status.{Status}
-use Rattle.run_tasks.specs.declared.take.Gathered.{Gathered}
+use Rattle.fcast_run.specs.declared.take.Gathered.{Gathered}
 use Rattle.run_receive.proofs.Public.{outcome_is, told_before}
 use Rattle.run_tasks.proofs.Public.{after_taking}
 use Rattle.fcast_run.proofs.Gathering.{told_received}

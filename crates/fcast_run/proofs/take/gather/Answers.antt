@@ -4,7 +4,7 @@ use Rattle.receiver_core.specs.Receiver.{Receiver}
 use Rattle.fcast_run.proofs.Gathering.{told_of}
 use Rattle.run_base.specs.Bounds.{limit}
 use Rattle.run_base.specs.declared.ending.Ending.{Ending}
-use Rattle.run_tasks.specs.declared.take.Gathered.{Gathered}
+use Rattle.fcast_run.specs.declared.take.Gathered.{Gathered}
 use Rattle.run_receive.specs.Events.{events_of}
 use Rattle.run_receive.proofs.Public.{heard_as, no_event_heard, no_datagram_heard, told_at_memory, fresh}
 use Rattle.fcast_run.proofs.take.gather.Goals as goal

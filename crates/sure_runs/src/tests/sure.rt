@@ -1,6 +1,5 @@
 //! Runs over devices that never fail, for each status that they can end with.
 
-use super::devices::{named, short};
 use super::same::same;
 use crate::{SureEdge, run_surely};
 use edge_io::{SureDatagrams, SureEmit, SureFiles, SureShelf, SureText};
@@ -11,6 +10,7 @@ use std::sync::{Arc, Wait};
 use std::test::Fail;
 use std::thread::Threads;
 use std::time::Clock;
+use worked_runs::given::{named, short};
 use worked_runs::logs::EMPTY_INSTANCE_DATAGRAM;
 use worked_runs::packets::zero_packets;
 use worked_runs::playing::labels_of;

@@ -2,8 +2,8 @@ use Rattle.std.proofs.Common.{◌≡◌, refl}
 use Rattle.std.specs.Prelude.{◌⊎◌, Ok, Err}
 use Rattle.run_tasks.specs.Tasks.{uses}
 use Rattle.run_words.specs.Commands.{task_for}
-use Rattle.failing_calls.proofs.Unfailed.{never_rose, no_place, no_part, are_told, isn't}
-use Rattle.failing_calls.proofs.sure_run.run_surely.Goals as goal
+use Rattle.sure_runs.proofs.Unfailed.{never_rose, no_place, no_part, are_told, isn't}
+use Rattle.sure_runs.proofs.sure_run.run_surely.Goals as goal
 
 -- no part of the outside failed, whatever the task uses
 pub returns-clause-completes : goal.returns-clause-completes

@@ -33,7 +33,7 @@ pub are_told : (place : Option Place) (used : Bool) → AreTold place used (Unit
 are_told None false = unit
 are_told None true = unit
 are_told (Some place) false = unit
-are_told (Some place) true = unit , unit
+are_told (Some place) true = (unit, unit)
 
 -- ---- the numbers of the faults of a device
 
