@@ -140,17 +140,15 @@ impl WantingWatcher {
 }
 
 impl Watch for WantingWatcher {
-    ghost use Rattle.watch_list.specs.declared.event.Event.{Event};
+    ghost use Rattle.watch_list.specs.Hearing.{Hearing, HasHeard};
 
-    ghost told = { λ _. ⊥ };
-
-    ghost number = { λ s. s.heard };
-
-    ghost record_of = { λ _. [] };
-
-    ghost faults = { λ s. s.calls.failed };
-
-    ghost refuses = { λ s _ n. n ≡ one_more s.calls.failed };
+    ghost hearing = { λ s. record {
+      number = s.heard;
+      told = ⊥;
+      events = [];
+      faults = s.calls.failed;
+      refuses = λ before event count. count ≡ one_more s.calls.failed;
+    } };
 
     fn hear(&mut self, _event: &Event) -> Result<(), Unheard> {
         if self.heard == u64::MAX {
