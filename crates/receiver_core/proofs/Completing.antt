@@ -15,12 +15,12 @@ use Rattle.receiver_core.specs.Inner.Lists.{Each}
 use Rattle.receiver_core.specs.Inner.Candidates.{is_file_at, kind_at}
 
 -- an answer in two steps has both
-then_some : {A B : Type 0} (f : A → Option B) (o : Option A) (b : B) → option_and_then f o ≡ Some b → (a : A) × ((o ≡ Some a) × (f a ≡ Some b))
+pub then_some : {A B : Type 0} (f : A → Option B) (o : Option A) (b : B) → option_and_then f o ≡ Some b → (a : A) × ((o ≡ Some a) × (f a ≡ Some b))
 then_some f None b e = absurd (let no_value : None ≡ Some b = e in cc)
 then_some f (Some a) b e = (a, (refl, e))
 
 -- a mapped answer has one that it is mapped from
-map_some : {A B : Type 0} (f : A → B) (o : Option A) (b : B) → option_map f o ≡ Some b → (a : A) × ((o ≡ Some a) × (f a ≡ b))
+pub map_some : {A B : Type 0} (f : A → B) (o : Option A) (b : B) → option_map f o ≡ Some b → (a : A) × ((o ≡ Some a) × (f a ≡ b))
 map_some f None b e = absurd (let no_value : None ≡ Some b = e in cc)
 map_some f (Some a) b e = (a, (refl, cc))
 

@@ -1,5 +1,7 @@
 pub mod Lists
 pub mod Completing
+pub mod InstanceOf
+pub mod SessionPackets
 pub mod Bests
 pub mod Candidacies
 pub mod Going

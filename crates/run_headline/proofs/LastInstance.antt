@@ -1,26 +1,24 @@
 -- A receiver installs the last instance of a catalog from packets of its session that make the instance ready.
-use Rattle.std.proofs.Common.{◌≡◌, ℕ, ◌<◌, ◌≤◌, Bool, true, false, List, [], ◌∷◌, ◌++◌, Option, Some, None, map, refl, sym, ap, subst, ◌∙◌, get_or, arith, inl, inr}
+use Rattle.std.proofs.Common.{◌≡◌, ℕ, ◌<◌, ◌≤◌, Bool, true, false, List, [], ◌∷◌, ◌++◌, Option, Some, None, refl, sym, ap, subst, ◌∙◌, get_or, arith, inl, inr}
 use Rattle.std.specs.Prelude.{All, ◌==◌, if◌then◌else◌, option_map}
 use Rattle.std.specs.List.{Contains}
-use Rattle.std.specs.Option.{option_and_then}
 use Rattle.std.proofs.lemmas.Bool.{ne_eqb, eqb-false}
 use Rattle.std.proofs.lemmas.Bool.Decides.{nat_tests}
 use Rattle.std.proofs.lemmas.List.Elements.{All-head, All-tail, All-contains}
 use Rattle.alc_packet.specs.Packet.{SymbolPacket}
 use Rattle.carousel_cid.specs.Instances.{Shown, toi_of}
 use Rattle.carousel_cid.specs.Kinds.{kind_of_object}
-use Rattle.carousel_cid.specs.declared.file_of.FileOf.{FileOf}
 use Rattle.carousel_cid.specs.declared.kind.Kind.TheVariants as kinds
 use Rattle.held_packets.specs.Held.{Held}
 use Rattle.held_packets.specs.Ready.{is_ready}
 use Rattle.held_packets.specs.KeptSet.{kept, gathered, set_count, sent_when_ready, ready_objects}
 use Rattle.held_packets.specs.Session.{AreOf}
 use Rattle.held_packets.proofs.Public.{all_kept}
-use Rattle.receiver_core.specs.Best.{Objects, IsBestOf, complete, file_of_kind, file_of, files_of, is_better}
+use Rattle.receiver_core.specs.Best.{Objects, IsBestOf, complete, files_of, is_better}
 use Rattle.receiver_core.specs.BestOf.{installed_after}
 use Rattle.receiver_core.specs.Classes.{packets_of}
 use Rattle.receiver_core.proofs.Public.{complete_descriptor, complete_named, descriptor_of}
-use Rattle.receiver_core.proofs.Public.{one_best}
+use Rattle.receiver_core.proofs.Public.{one_best, file_there, files_there}
 use Rattle.sender_plan.specs.declared.params.Params.{Params}
 use Rattle.sender_plan.specs.CatalogInstance.{CatalogInstance}
 use Rattle.sender_plan.specs.Installed.{shown_of, Carries}
@@ -62,20 +60,6 @@ ready_from s set t bytes is = by (t == 0) refl (object_of s t) refl is
     by true zero o found is = absurd cc
     by false zero None found is = absurd cc
     by false zero (Some o) found is = (o, omega (arith, eqb-false t 0 zero), found, when_ready (is_ready set t o.oti) o.bytes bytes is)
-
--- ---- files that are there
-
-file_there : (objects : Objects) (f : FileOf) (bytes : List ℕ) → objects f.toi ≡ Some bytes → kind_of_object bytes ≡ kinds.File f.location f.kind f.body
-    → file_of objects f.toi ≡ Some f
-file_there objects f bytes is reads =
-    ap (option_and_then (λ bytes. file_of_kind f.toi (kind_of_object bytes))) is ∙ ap (file_of_kind f.toi) reads
-
-files_there : (objects : Objects) (fs : List FileOf) → All (λ f. file_of objects f.toi ≡ Some f) fs → files_of objects (map toi_of fs) ≡ Some fs
-files_there objects [] all = refl
-files_there objects (f ∷ fs) all =
-    let here = All-head (λ f. file_of objects f.toi ≡ Some f) f fs all in
-    let rest = files_there objects fs (All-tail (λ f. file_of objects f.toi ≡ Some f) f fs all) in
-    rw (here, rest) refl
 
 -- ---- no instance that is announced is better
 

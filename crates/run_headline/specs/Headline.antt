@@ -7,8 +7,8 @@ use Rattle.held_packets.specs.Session.{Session, Belongs}
 use Rattle.held_packets.specs.KeptSet.{kept, drops, gathered, ready_objects}
 use Rattle.edge_io.specs.Shelved.{Shelved}
 use Rattle.carousel_cid.specs.Instances.{Shown}
-use Rattle.receiver_core.specs.Classes.{packets_of}
-use Rattle.receiver_core.specs.Best.{IsBestOf}
+use Rattle.receiver_core.specs.InstanceOf.{IsBestInstance}
+use Rattle.receiver_core.specs.SessionPackets.{ArePacketsOf}
 use Rattle.run_receive.specs.Texts.{manifest, best_lines, over_line}
 use Rattle.run_base.specs.declared.settings.Settings.{Settings}
 
@@ -22,10 +22,13 @@ abbrev pub IsInstalled : Option Shown → Shelved → Shelved → Type 0
 IsInstalled None old new = new ≡ old
 IsInstalled (Some i) old new = new.done ≡ Some (record { number = i.number; files = map (λ f. (f.toi, f.body)) i.files; manifest = manifest i })
 
--- The best instance of the session's objects that are ready in the set of the packets kept, as the session has them:
--- it is on the shelf and in the report. Where there is none, the shelf is as before, and the report says so.
-pub record InstallsBest (s : Session) (c : Settings) (left : List (List ℕ)) (shelf shelf' : Shelved) (text text' : List ℕ) : Type 0 where
+-- Of the packets that the datagrams spell, in order: the best instance of the session's objects that are ready in the set of
+-- those kept, as the session has them. It is on the shelf and in the report. Where there is none, the shelf is as before,
+-- and the report says so.
+pub record InstallsBest (s : Session) (c : Settings) (taken : List (List ℕ)) (shelf shelf' : Shelved) (text text' : List ℕ) : Type 0 where
+  pub packets : List SymbolPacket
+  pub spelled : ArePacketsOf c.tsi taken packets
   pub best : Option Shown
-  pub greatest : IsBestOf (ready_objects s (gathered (kept c.budget (packets_of c.tsi left)))) best
+  pub greatest : IsBestInstance (ready_objects s (gathered (kept c.budget packets))) best
   pub installed : IsInstalled best shelf shelf'
-  pub reported : text' ≡ text ++ (best_lines best ++ over_line (drops c.budget (packets_of c.tsi left)))
+  pub reported : text' ≡ text ++ (best_lines best ++ over_line (drops c.budget packets))

@@ -1,5 +1,5 @@
 -- The packets of a session that datagrams spell.
-use Rattle.std.proofs.Common.{◌≡◌, ℕ, ◌<◌, ◌^◌, arith, get_or, Bool, true, false, List, [], ◌∷◌, refl, sym, subst, Option, Some, None, eqb-true}
+use Rattle.std.proofs.Common.{◌≡◌, ℕ, ◌<◌, ◌^◌, arith, get_or, Bool, true, false, List, [], ◌∷◌, refl, subst, Option, Some, None, eqb-true}
 use Rattle.std.specs.Prelude.{◌==◌, if◌then◌else◌, Result, Ok, Err}
 use Rattle.std.specs.List.{All, cons_option}
 use Rattle.std.proofs.lemmas.List.{get_or_default}
@@ -12,15 +12,12 @@ use Rattle.alc_packet.specs.Reply.{reply}
 use Rattle.alc_packet.specs.declared.datagram.Datagram.{Datagram}
 use Rattle.alc_packet.specs.declared.datagram.Datagram.TheVariants as datagrams
 use Rattle.alc_packet.specs.declared.refusal.Refusal.{Refusal}
-use Rattle.alc_packet.proofs.Public.{some_answer, answered}
+use Rattle.receiver_core.proofs.Public.{says_reply}
 use Rattle.receiver_core.specs.Classes.{packet_of_reply, packet_under, packets_of}
 
 -- a list of numbers below 256
 pub are_bytes : (d : List ℕ) → ((i : ℕ) → get_or d i 0 < 2 ^ 8) → AreBytes d
 are_bytes d fits i x less = let is : get_or d i x ≡ get_or d i 0 = get_or_default d i x 0 less in omega (arith, is, fits i)
-
-pub says_reply : (d : List ℕ) → AreBytes d → Says d (reply d)
-says_reply d bytes = let a = some_answer d bytes in subst (λ r. Says d r) (sym (answered d a.0 a.1)) a.1
 
 -- what holds of each packet of the session that a datagram spells holds of the one that is read
 of_symbol : (P : SymbolPacket → Type 0) (tsi : ℕ) (q p : SymbolPacket) → (q.tsi ≡ tsi → P q)
