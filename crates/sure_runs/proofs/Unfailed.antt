@@ -21,19 +21,19 @@ pub never_rose : Rose 0 0 → ⊥
 never_rose rose = let at_end : 0 ≡ 2 ^ 64 - 1 = rose (omega arith) in omega (arith, at_end)
 
 pub no_place : (place : Option Place) → MatchOption place (Unit {0}) (λ p. Rose 0 0 → ⊥)
-no_place None = unit
+no_place None = tt
 no_place (Some place) = never_rose
 
 pub no_part : (used : Bool) → MatchBool used (Rose 0 0 → ⊥) (Unit {0})
 no_part true = never_rose
-no_part false = unit
+no_part false = tt
 
 -- all is told where each part is
 pub are_told : (place : Option Place) (used : Bool) → AreTold place used (Unit {0}) (Unit {0})
-are_told None false = unit
-are_told None true = unit
-are_told (Some place) false = unit
-are_told (Some place) true = (unit, unit)
+are_told None false = tt
+are_told None true = tt
+are_told (Some place) false = tt
+are_told (Some place) true = (tt, tt)
 
 -- ---- the numbers of the faults of a device
 
