@@ -4,6 +4,7 @@ pub use Rattle.oti_blocks.specs.Sent.{Sent, IsSent}
 unfoldable pub use Rattle.oti_blocks.specs.Sent.{filled, block_rows}
 use Rattle.alc_packet.specs.Packet.{SymbolPacket, IsPacket, full}
 use Rattle.rs_code.specs.SourceRows.{IsSymbolRow}
+use Rattle.oti_blocks.specs.Partition.{symbol_of}
 
 -- a session: its objects by their identifiers, so that one identifier is one object
 abbrev pub Session : Type 0
@@ -18,7 +19,7 @@ pub record Belongs (s : Session) (p : SymbolPacket) : Type 0 where
   pub object : Sent
   pub sent : s p.toi ≡ Some object
   pub information : p.oti ≡ object.oti
-  pub symbol : IsSymbolRow (block_rows object p.sbn) object.oti.symbol p.esi (full p)
+  pub symbol : IsSymbolRow (block_rows object p.sbn) (symbol_of object.oti) p.esi (full p)
 
 pub record IsOf (s : Session) (p : SymbolPacket) : Type 0 where
   pub packet : IsPacket p

@@ -22,18 +22,19 @@ use Rattle.sender_schedule.proofs.Rows.{length-block_rows, few_rows, block_rows_
 use Rattle.sender_schedule.proofs.SymbolRows.{length-symbol_row, symbol_row_of_bytes}
 use Rattle.sender_schedule.proofs.Packets.{packet_is}
 use Rattle.sender_schedule.proofs.Once.{only}
+use Rattle.oti_blocks.specs.Partition.{symbol_of}
 
 -- its bytes are those of the symbol
 symbol_is : (tsi : ℕ) (o : SentObject) (p : SymbolId) → CanBeSent o → IsSymbolId o.oti p
-    → IsSymbolRow (block_rows (sent_of o) p.sbn) o.oti.symbol p.esi (full (packet tsi o p))
+    → IsSymbolRow (block_rows (sent_of o) p.sbn) (symbol_of o.oti) p.esi (full (packet tsi o p))
 unfolding full
 symbol_is tsi o p can is =
     let x : Sent = sent_of o in
-    let row = symbol_row (block_rows x p.sbn) o.oti.symbol p.esi in
+    let row = symbol_row (block_rows x p.sbn) (symbol_of o.oti) p.esi in
     let few = few_rows x p.sbn can.sent is.sbn in
-    subst (IsSymbolRow (block_rows x p.sbn) o.oti.symbol p.esi)
-    (sym (filled_whole o.oti.symbol row (omega (arith, length-symbol_row (block_rows x p.sbn) o.oti.symbol p.esi))))
-    (symbol_row_of_bytes (block_rows x p.sbn) o.oti.symbol p.esi (λ at less. block_rows_bytes x p.sbn at can.sent less)
+    subst (IsSymbolRow (block_rows x p.sbn) (symbol_of o.oti) p.esi)
+    (sym (filled_whole (symbol_of o.oti) row (omega (arith, length-symbol_row (block_rows x p.sbn) (symbol_of o.oti) p.esi))))
+    (symbol_row_of_bytes (block_rows x p.sbn) (symbol_of o.oti) p.esi (λ at less. block_rows_bytes x p.sbn at can.sent less)
     (λ at. omega (arith, few, length-block_rows x p.sbn at)))
 
 -- the datagram of a symbol belongs to the session

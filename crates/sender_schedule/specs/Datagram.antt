@@ -6,6 +6,7 @@ use Rattle.alc_packet.specs.Writing.{written}
 use Rattle.sender_plan.specs.Session.{SentObject}
 use Rattle.sender_schedule.specs.SymbolRow.{symbol_row}
 use Rattle.sender_schedule.specs.declared.symbol_id.SymbolId.{SymbolId}
+use Rattle.oti_blocks.specs.Partition.{symbol_of}
 
 -- the object by its transmission information and its bytes
 abbrev pub sent_of : SentObject → Sent
@@ -19,7 +20,7 @@ packet tsi o p = record {
   oti = o.oti;
   sbn = p.sbn;
   esi = p.esi;
-  symbol = symbol_row (block_rows (sent_of o) p.sbn) o.oti.symbol p.esi;
+  symbol = symbol_row (block_rows (sent_of o) p.sbn) (symbol_of o.oti) p.esi;
   close = false;
 }
 

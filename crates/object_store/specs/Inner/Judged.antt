@@ -10,6 +10,7 @@ use Rattle.object_store.specs.declared.judgement.Judgement.TheVariants.{Joins, S
 use Rattle.held_packets.specs.Held.{same_information}
 use Rattle.held_packets.specs.Verdict.{is_new}
 use Rattle.object_store.specs.Inner.ObjectHeld.{ObjectHeld, finding_at}
+use Rattle.oti_blocks.specs.Partition.{symbol_of}
 
 abbrev pub by_budget : ℕ → ℕ → ℕ → Judgement
 by_budget budget count charge = if nat_lt budget (count + charge) then Stays (OverBudget count charge) else Joins charge
@@ -19,7 +20,7 @@ abbrev pub by_finding : ℕ → ℕ → ℕ → SymbolPacket → Finding → Jud
 by_finding budget count opening p Same = Stays Repeat
 by_finding budget count opening p (Differs at) = Stays (SymbolDiffers at)
 by_finding budget count opening p Full = Stays Spare
-by_finding budget count opening p (Wanting held) = by_budget budget count ((opening + (if held == 0 then 64 else 0)) + p.oti.symbol)
+by_finding budget count opening p (Wanting held) = by_budget budget count ((opening + (if held == 0 then 64 else 0)) + symbol_of p.oti)
 
 -- of a packet whose object is held
 abbrev pub judged_in : ℕ → ℕ → ObjectHeld → SymbolPacket → Judgement
