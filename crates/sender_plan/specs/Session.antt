@@ -42,7 +42,7 @@ pub record IsObject (position : ℕ) (o : SentObject) : Type 0 where
   pub sound : IsSound o.oti
   pub bytes : AreBytes o.bytes
   pub long : length o.bytes ≡ length_of o.oti
-  pub symbol : (symbol_of o.oti) ≤ 65475
+  pub symbol : symbol_of o.oti ≤ 65475
 
 -- the objects of an instance are the session's, and differ
 pub record IsInstance (s : Session) (i : SentInstance) : Type 0 where

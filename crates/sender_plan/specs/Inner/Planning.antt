@@ -44,7 +44,7 @@ pub record IsSendable (o : SentObject) : Type 0 where
   pub sound : IsSound o.oti
   pub bytes : AreBytes o.bytes
   pub long : length o.bytes ≡ length_of o.oti
-  pub symbol : (symbol_of o.oti) ≤ 65475
+  pub symbol : symbol_of o.oti ≤ 65475
 
 -- bodies are told apart, parameters are those of a session, and so are the objects
 pub record IsReady (planner : Planner) : Type 0 where
