@@ -5,6 +5,7 @@ use Rattle.std.specs.List.{flat_map}
 use Rattle.std.proofs.lemmas.Option.{slice_get_cases}
 use Rattle.std.proofs.lemmas.List.Elements.{All-map}
 use Rattle.wire_bytes.proofs.Public.{filled_whole}
+use Rattle.oti_blocks.specs.Partition.{symbol_of}
 use Rattle.oti_blocks.specs.Sent.{Sent, block_rows}
 use Rattle.rs_code.specs.SourceRows.{IsSymbolRow}
 use Rattle.alc_packet.specs.Packet.{full}
@@ -22,7 +23,6 @@ use Rattle.sender_schedule.proofs.Rows.{length-block_rows, few_rows, block_rows_
 use Rattle.sender_schedule.proofs.SymbolRows.{length-symbol_row, symbol_row_of_bytes}
 use Rattle.sender_schedule.proofs.Packets.{packet_is}
 use Rattle.sender_schedule.proofs.Once.{only}
-use Rattle.oti_blocks.specs.Partition.{symbol_of}
 
 -- its bytes are those of the symbol
 symbol_is : (tsi : ℕ) (o : SentObject) (p : SymbolId) → CanBeSent o → IsSymbolId o.oti p

@@ -79,7 +79,7 @@ rounds_among o p a (suc m) is from less =
 pub once : (o : ObjectInformation) → IsSound o → (p : SymbolId) → IsSymbolId o p → times p (symbol_ids o) ≡ 1
 once o sound p is =
     let most = (encoding_at_bounds o sound p.sbn is.sbn).1 in
-    rounds_among o p 0 ((most_encoding o) - 0) is (omega arith) (omega (arith, most, is.esi))
+    rounds_among o p 0 (most_encoding o - 0) is (omega arith) (omega (arith, most, is.esi))
 
 -- ---- and no other
 

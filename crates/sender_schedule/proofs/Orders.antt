@@ -64,7 +64,7 @@ next_round o p sound is none more =
 pub no_round : (o : ObjectInformation) (p : SymbolId) → IsSound o → IsSymbolId o p → (p.sbn + 1 < blocks o → encoding_at o (p.sbn + 1) ≤ p.esi)
     → encoding_at o 0 ≤ p.esi + 1 → symbol_ids_from o p ≡ p ∷ []
 no_round o p sound is none last =
-    turns o p sound is none ∙ ap (λ (ps : List SymbolId). p ∷ ps) (rounds_none o sound (p.esi + 1) ((most_encoding o) - (p.esi + 1)) last)
+    turns o p sound is none ∙ ap (λ (ps : List SymbolId). p ∷ ps) (rounds_none o sound (p.esi + 1) (most_encoding o - (p.esi + 1)) last)
 
 -- ---- the first symbol
 

@@ -1,6 +1,6 @@
 -- The symbol starts within the object, and what is cut from there has its bytes.
-use Rattle.std.proofs.Common.{◌≡◌, ◌*◌, ◌^◌, ◌<◌, ◌≤◌, ap, ◌∙◌, subst, arith}
-use Rattle.oti_blocks.specs.Partition.{ObjectInformation, IsSound, length_of, symbol_of}
+use Rattle.std.proofs.Common.{◌≡◌, ◌*◌, ◌^◌, ◌<◌, ◌≤◌, ap, ◌∙◌, arith}
+use Rattle.oti_blocks.specs.Partition.{length_of, symbol_of}
 use Rattle.oti_blocks.proofs.Public.{bounds}
 use Rattle.sender_schedule.proofs.Rows.{starts_within}
 use Rattle.sender_schedule.proofs.source.source_symbol.Goals as goal
@@ -9,8 +9,8 @@ use Rattle.sender_schedule.proofs.source.source_symbol.Goals as goal
 starts : (c : goal.After-from-size) → (c.args.number * c.from-size.result ≤ length_of c.args.oti.now) × (length_of c.args.oti.now < 2 ^ 48)
 starts c =
     let o = c.args.oti.now in
-    let sound : IsSound c.args.oti.now = subst IsSound c.oti.view_is c.oti.invariant in
-    let same : c.args.number * c.from-size.result ≡ c.args.number * (symbol_of o) =
+    let sound = c.length-length.ensures.sound in
+    let same : c.args.number * c.from-size.result ≡ c.args.number * symbol_of o =
     ap (λ n. c.args.number * n) (c.from-size.ensures ∙ c.symbol.ensures.value) in
     (omega (arith, starts_within o c.args.number sound c.requires.within, same), (bounds o sound).length_fits)
 
