@@ -66,7 +66,7 @@ judged_unheld budget m p is closed =
     let none : symbols_held held p.toi p.oti p.sbn ≡ 0 = symbols_are m p.toi p.oti (new_object p.oti) here p.sbn ∙ none_in (new_object p.oti) p.sbn shut in
     let vacant : row_at held (place_of p) ≡ None = held_here m p.toi p.oti (new_object p.oti) here p.sbn p.esi
     ∙ ap (λ (h : BlockHeld). get h.rows p.esi) shut ∙ get-empty nat_cmp p.esi in
-    let adds : charge held p ≡ (256 + (if symbols_held held p.toi p.oti p.sbn == 0 then 64 else 0)) + (symbol_of p.oti) =
+    let adds : charge held p ≡ (256 + (if symbols_held held p.toi p.oti p.sbn == 0 then 64 else 0)) + symbol_of p.oti =
     ap (λ (r : Option ObjectInformation). ((if is_some r then 0 else 256) + (if symbols_held held p.toi p.oti p.sbn == 0 then 64 else 0)) + symbol_of p.oti) information in
     let some = (size_bounds p.oti is.sound p.sbn is.block).0 in
     subst (λ (k : Kept). IsJudged k (charge held p) (by_finding budget (byte_count held) 256 p (Wanting 0))) (sym (ap (verdict_on_object budget held p) information))
@@ -85,7 +85,7 @@ judged_held budget m p o open_o =
     let held = held_of m in
     let information : get held.objects p.toi ≡ Some o.oti = get_information m p.toi ∙ ap (option_map (λ (o : ObjectHeld). o.oti)) open_o in
     let here : unwrap_or (get m p.toi) (new_object p.oti) ≡ o = ap (λ (r : Option ObjectHeld). unwrap_or r (new_object p.oti)) open_o in
-    let adds : charge held p ≡ (0 + (if symbols_held held p.toi p.oti p.sbn == 0 then 64 else 0)) + (symbol_of p.oti) =
+    let adds : charge held p ≡ (0 + (if symbols_held held p.toi p.oti p.sbn == 0 then 64 else 0)) + symbol_of p.oti =
     ap (λ (r : Option ObjectInformation). ((if is_some r then 0 else 256) + (if symbols_held held p.toi p.oti p.sbn == 0 then 64 else 0)) + symbol_of p.oti) information in
     subst (λ (k : Kept). IsJudged k (charge held p) (judged_in budget (byte_count held) o p)) (sym (ap (verdict_on_object budget held p) information))
     (elim (same_information o.oti p.oti) as (λ x. same_information o.oti p.oti ≡ x

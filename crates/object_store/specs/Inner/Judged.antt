@@ -1,5 +1,6 @@
 -- The verdict from what a packet's object says of it.
 use Rattle.std.specs.Prelude.{◌≡◌, ℕ, ◌+◌, nat_lt, ◌==◌, if◌then◌else◌, true, false}
+use Rattle.oti_blocks.specs.Partition.{symbol_of}
 use Rattle.alc_packet.specs.Packet.{SymbolPacket}
 use Rattle.held_packets.specs.declared.kept.Kept.{Kept}
 use Rattle.held_packets.specs.declared.kept.Kept.TheVariants.{Repeat, Spare, OtiDiffers, SymbolDiffers, OverBudget}
@@ -10,7 +11,6 @@ use Rattle.object_store.specs.declared.judgement.Judgement.TheVariants.{Joins, S
 use Rattle.held_packets.specs.Held.{same_information}
 use Rattle.held_packets.specs.Verdict.{is_new}
 use Rattle.object_store.specs.Inner.ObjectHeld.{ObjectHeld, finding_at}
-use Rattle.oti_blocks.specs.Partition.{symbol_of}
 
 abbrev pub by_budget : ℕ → ℕ → ℕ → Judgement
 by_budget budget count charge = if nat_lt budget (count + charge) then Stays (OverBudget count charge) else Joins charge
