@@ -9,7 +9,7 @@ use Rattle.std.proofs.lemmas.Iterator.Adapters.{position_from-zero}
 use Rattle.wire_bytes.specs.Bytes.{are_zero}
 use Rattle.wire_bytes.specs.FirstFault.{first_fault}
 use Rattle.wire_bytes.proofs.Public.{past, none_hold, cause_fails, fault_is_none, zeros_from_test, test_from_zeros}
-use Rattle.oti_blocks.specs.Partition.{IsSound, blocks, size_at, encoding_at, last_length}
+use Rattle.oti_blocks.specs.Partition.{IsSound, blocks, size_at, encoding_at, last_length, symbol_of}
 use Rattle.alc_packet.specs.declared.refusal.Refusal.TheVariants.{FillNotZero}
 use Rattle.alc_packet.specs.Packet.{SymbolPacket, IsPacket, IsLastSource, HasWholeSymbol, HasCutSymbol}
 use Rattle.alc_packet.specs.Refusal.{is_last, is_whole, is_cut, bad_fill, block_out, symbol_out, symbol_length, fill_not_zero, packet_lines}
@@ -96,7 +96,7 @@ packet_from_lines p tsi toi sound e =
 -- its symbol has a right length
 length_right : (p : SymbolPacket) → HasWholeSymbol p ⊎ HasCutSymbol p → (not (is_whole p) && not (is_cut p)) ≡ false
 length_right p symbol = elim symbol [
-  | inl whole ↦ and_left (not (is_whole p)) (not (is_cut p)) (ap not (eq-eqb (length p.symbol) p.oti.symbol whole.whole))
+  | inl whole ↦ and_left (not (is_whole p)) (not (is_cut p)) (ap not (eq-eqb (length p.symbol) (symbol_of p.oti) whole.whole))
   | inr cut ↦ and_right (not (is_whole p)) (not (is_cut p))
       (ap not (and_from (is_last p) (length p.symbol == last_length p.oti) (test_from_last p cut.last) (eq-eqb (length p.symbol) (last_length p.oti) cut.cut)))
 ]

@@ -3,7 +3,7 @@ use Rattle.std.proofs.Common.{◌≡◌, ℕ, ◌^◌, ◌<◌, Bool, List, refl
 use Rattle.std.proofs.Math.Nat.{pow-le-pow_right}
 use Rattle.lct_header.specs.Header.{Header, IsHeader}
 use Rattle.oti_blocks.specs.Partition.{ObjectInformation}
-use Rattle.oti_blocks.proofs.Public.{encoding_at_bounds}
+use Rattle.oti_blocks.proofs.Public.{encoding_at_bounds, few_blocks}
 use Rattle.alc_packet.specs.Packet.{SymbolPacket, IsPacket}
 
 -- a packet by its parts
@@ -16,7 +16,7 @@ made p tsi toi oti sbn esi symbol close a b c d e f g = rw (a, b, c, d, e, f, g)
 pub places_fit : (p : SymbolPacket) → IsPacket p → (p.sbn < 256 ^ 3) × (p.esi < 256)
 places_fit p is =
     let encoding = encoding_at_bounds p.oti is.sound p.sbn is.block in
-    (omega (arith, is.block, is.sound.few_blocks), omega (arith, is.place, encoding.1, is.sound.max_n_fits))
+    (omega (arith, is.block, few_blocks p.oti is.sound), omega (arith, is.place, encoding.1, is.sound.max_n_fits))
 
 -- the numbers of a header are those that a packet can have
 pub numbers_fit : (h : Header) → IsHeader h → (h.tsi < 2 ^ 48) × (h.toi < 2 ^ 112)

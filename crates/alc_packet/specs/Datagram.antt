@@ -10,9 +10,13 @@ use Rattle.alc_packet.specs.Pieces.{Pieces, ArePieces}
 abbrev pub codepoint : ℕ
 codepoint = 5
 
--- The payload: the FEC Payload ID, SBN in 24 bits and ESI in 8 (RFC 5510, section 4.1), and the symbol.
+-- The FEC Payload ID: SBN in 24 bits and ESI in 8 (RFC 5510, section 4.1).
+abbrev pub payload_id : ℕ → ℕ → List ℕ
+payload_id sbn esi = big_bytes 3 sbn ++ big_bytes 1 esi
+
+-- the payload: the payload ID and the symbol
 abbrev pub payload_of : SymbolPacket → List ℕ
-payload_of p = big_bytes 3 p.sbn ++ (big_bytes 1 p.esi ++ p.symbol)
+payload_of p = payload_id p.sbn p.esi ++ p.symbol
 
 -- The datagram is this packet: a header with a TOI and with exactly one EXT_FTI, which has the packet's transmission
 -- information, and the payload. A TSI of no bytes is 0.

@@ -1,7 +1,7 @@
 -- A packet with one encoding symbol (RFC 5775; RFC 5510, section 4).
 use Rattle.std.specs.Prelude.{◌≡◌, ℕ, ◌+◌, ◌^◌, ◌<◌, Bool, List, length, drop, ◌⊎◌, All}
 use Rattle.wire_bytes.specs.Bytes.{zero_filled}
-use Rattle.oti_blocks.specs.Partition.{ObjectInformation, IsSound, blocks, size_at, encoding_at, last_length}
+use Rattle.oti_blocks.specs.Partition.{ObjectInformation, IsSound, blocks, size_at, encoding_at, last_length, symbol_of}
 
 -- What a packet says: its session (TSI) and its object (TOI), the object's transmission information, the
 -- symbol's block (SBN) and place there (ESI), the symbol's bytes, and whether it closes the session.
@@ -21,7 +21,7 @@ pub record IsLastSource (p : SymbolPacket) : Type 0 where
 
 -- the symbol is whole, and what the object doesn't fill of it is zero
 pub record HasWholeSymbol (p : SymbolPacket) : Type 0 where
-  pub whole : length p.symbol ≡ p.oti.symbol
+  pub whole : length p.symbol ≡ symbol_of p.oti
   pub filled : IsLastSource p → All (λ x. x ≡ 0) (drop (last_length p.oti) p.symbol)
 
 -- the symbol is the object's last and ends where the object ends
@@ -40,4 +40,4 @@ pub record IsPacket (p : SymbolPacket) : Type 0 where
 
 -- the symbol, filled with zeros
 unfoldable pub full : SymbolPacket → List ℕ
-full p = zero_filled p.oti.symbol p.symbol
+full p = zero_filled (symbol_of p.oti) p.symbol

@@ -9,7 +9,7 @@ use Rattle.lct_header.specs.declared.fault.HeaderFault.TheVariants as header
 use Rattle.lct_header.specs.Faults.{IsFirstFault}
 use Rattle.oti_blocks.specs.declared.fault.OtiFault.{OtiFault}
 use Rattle.oti_blocks.specs.declared.fault.OtiFault.TheVariants as information
-use Rattle.oti_blocks.specs.Partition.{blocks, size_at, encoding_at, last_length}
+use Rattle.oti_blocks.specs.Partition.{blocks, size_at, encoding_at, last_length, symbol_of}
 use Rattle.oti_blocks.specs.Wire.{stated}
 use Rattle.oti_blocks.specs.Faults.{fti_fault}
 use Rattle.alc_packet.specs.declared.refusal.Refusal.{Refusal}
@@ -80,7 +80,7 @@ abbrev pub is_last : SymbolPacket → Bool
 is_last p = p.sbn + 1 == blocks p.oti && p.esi + 1 == size_at p.oti p.sbn
 
 abbrev pub is_whole : SymbolPacket → Bool
-is_whole p = length p.symbol == p.oti.symbol
+is_whole p = length p.symbol == symbol_of p.oti
 
 -- it is the last one, and ends where the object ends
 abbrev pub is_cut : SymbolPacket → Bool

@@ -57,7 +57,7 @@ pub(crate) fn first_refusal(oti: &Oti, sbn: u32, esi: u8, symbol: &[u8]) -> Opti
     let last = is_last(oti, sbn, esi);
     let end = usize::from(oti.last_length());
     let length = symbol.len();
-    if length == usize::from(oti.symbol) {
+    if length == usize::from(oti.symbol()) {
         if !last {
             return None;
         }

@@ -1,7 +1,7 @@
 //! Writing a packet.
 
 ghost use Rattle.std.specs.Prelude.{◌≡◌, ◌^◌, ◌<◌, ◌++◌, IfOk, OnOk};
-ghost use Rattle.alc_packet.specs.Datagram.{Spells, payload_of};
+ghost use Rattle.alc_packet.specs.Datagram.{Spells, payload_id, payload_of};
 ghost use Rattle.alc_packet.specs.Writing.{least_widths, header_of, written};
 
 use crate::datagram::{CODEPOINT, Packet};
@@ -67,9 +67,17 @@ fn least_widths(tsi: u64, toi: u128) -> (u8, u8)
 fn push_payload(datagram: &mut Vec<u8>, packet: &Packet<'_>) -> Result<(), AllocError>
     ensures { OnOk result (datagram.new.items ≡ datagram.old.items ++ payload_of packet.now) }
 {
-    let mut payload_id = [0u8; 4];
-    BigEndian::write_u24(&mut payload_id, packet.sbn);
-    payload_id[3] = packet.esi;
-    datagram.extend_from_slice(&payload_id)?;
+    datagram.extend_from_slice(&payload_id(packet.sbn, packet.esi))?;
     datagram.extend_from_slice(packet.symbol)
+}
+
+/// The FEC Payload ID (RFC 5510, section 4.1).
+fn payload_id(sbn: u32, esi: u8) -> [u8; 4]
+    requires { sbn < 2 ^ 24 }
+    ensures { result ≡ payload_id sbn esi }
+{
+    let mut id = [0u8; 4];
+    BigEndian::write_u24(&mut id, sbn);
+    id[3] = esi;
+    id
 }

@@ -7,7 +7,7 @@ use Rattle.std.specs.Cmp.{nat_cmp_total}
 use Rattle.std.specs.FinMap.{get, entries, get-insert, get-entries, entries_sorted, entries-insert}
 use Rattle.std.specs.FinMap.Entries.{put}
 use Rattle.std.proofs.lemmas.Bool.Decides.{nat_tests}
-use Rattle.oti_blocks.specs.Partition.{ObjectInformation, blocks, encoding_at}
+use Rattle.oti_blocks.specs.Partition.{ObjectInformation, blocks, encoding_at, symbol_of}
 use Rattle.alc_packet.specs.Packet.{SymbolPacket, full}
 use Rattle.held_packets.specs.Held.{Held, place, place_of, row_at, is_held, symbols_held, joined}
 use Rattle.held_packets.specs.Count.{block_count, object_count, byte_count, charge}
@@ -93,7 +93,7 @@ positive : (n : ℕ) → 0 < n → (n == 0) ≡ false
 positive n h = grind (arith, nat_tests)
 
 -- a symbol more adds its length, and 64 where it opens its block
-block_more : (o : ObjectInformation) (c : ℕ) → block_count o (c + 1) ≡ block_count o c + ((if c == 0 then 64 else 0) + o.symbol)
+block_more : (o : ObjectInformation) (c : ℕ) → block_count o (c + 1) ≡ block_count o c + ((if c == 0 then 64 else 0) + symbol_of o)
 block_more o zero = omega arith
 block_more o (suc c) = rw (positive (suc c + 1) (omega arith), positive (suc c) (omega arith)) (omega arith)
 
@@ -109,7 +109,7 @@ counted_elsewhere held p e apart =
 
 -- what the packet adds to its object
 abbrev added : Held → SymbolPacket → ℕ
-added held p = (if symbols_held held p.toi p.oti p.sbn == 0 then 64 else 0) + p.oti.symbol
+added held p = (if symbols_held held p.toi p.oti p.sbn == 0 then 64 else 0) + symbol_of p.oti
 
 -- the packet's object counts what the packet adds
 counted_here : (held : Held) (p : SymbolPacket) → IsFresh held p → counted (joined held p) (p.toi, p.oti) ≡ counted held (p.toi, p.oti) + added held p
@@ -144,7 +144,7 @@ joined_count held p fresh =
     (λ o found. fresh.agrees o (get-entries held.objects p.toi ∙ found)) in
     ap (sum_by (counted (joined held p))) (entries-insert nat_cmp_total held.objects p.toi p.oti)
     ∙ with_charge (get held.objects p.toi) _ (sum_by (counted held) es) (counted held (p.toi, p.oti))
-    (if symbols_held held p.toi p.oti p.sbn == 0 then 64 else 0) p.oti.symbol
+    (if symbols_held held p.toi p.oti p.sbn == 0 then 64 else 0) (symbol_of p.oti)
     (ap (λ found. sum_by (counted (joined held p)) (put nat_cmp p.toi p.oti es)
     + (if is_some found then counted held (p.toi, p.oti) else 0)) (get-entries held.objects p.toi)
     ∙ sums ∙ ap (λ own. sum_by (counted held) es + own) (counted_here held p fresh))

@@ -5,7 +5,7 @@ use Rattle.std.specs.Prelude.{is_some, if◌then◌else◌}
 use Rattle.std.specs.FinMap.{get}
 use Rattle.std.proofs.lemmas.Bool.Decides.{nat_tests}
 use Rattle.std.proofs.lemmas.List.Elements.{All-head, All-tail}
-use Rattle.oti_blocks.specs.Partition.{ObjectInformation, IsSound, blocks, size_at, encoding_at}
+use Rattle.oti_blocks.specs.Partition.{ObjectInformation, IsSound, blocks, size_at, encoding_at, symbol_of}
 use Rattle.oti_blocks.proofs.Public.{last_length_bounds}
 use Rattle.alc_packet.specs.Packet.{SymbolPacket, IsPacket, full}
 use Rattle.wire_bytes.proofs.Public.{count_none, length_filled}
@@ -18,14 +18,14 @@ use Rattle.held_packets.proofs.Verdicts.{IsNew, new_says}
 use Rattle.held_packets.proofs.Joined.{IsThere, there, with_row, with_object, open_joined}
 
 -- the filled symbol has the symbol's length
-pub length_full : (p : SymbolPacket) → IsPacket p → length (full p) ≡ p.oti.symbol
+pub length_full : (p : SymbolPacket) → IsPacket p → length (full p) ≡ symbol_of p.oti
 unfolding full
 length_full p packet =
-    let within : length p.symbol ≤ p.oti.symbol = elim packet.symbol [
+    let within : length p.symbol ≤ symbol_of p.oti = elim packet.symbol [
       | inl whole ↦ omega (arith, whole.whole)
       | inr cut ↦ omega (arith, cut.cut, (last_length_bounds p.oti packet.sound).2)
     ] in
-    length_filled p.oti.symbol p.symbol within
+    length_filled (symbol_of p.oti) p.symbol within
 
 -- a new packet is fresh
 pub fresh_of_new : (budget : ℕ) (held : Held) (p : SymbolPacket) → IsHeldPair held → IsPacket p → IsNew budget held p → IsFresh held p
@@ -64,10 +64,10 @@ was held p t o = with_object held p t (λ i. i ≡ Some o → Was held p t o) (�
 -- a row held before is within its object
 row_within : (held : Held) (p : SymbolPacket) (t b j : ℕ) (row : List ℕ) (o : ObjectInformation)
     → IsHeldPair held → IsFresh held p → row_at held (place t b j) ≡ Some row → Was held p t o
-    → (b < blocks o) × (j < encoding_at o b) × (length row ≡ o.symbol)
+    → (b < blocks o) × (j < encoding_at o b) × (length row ≡ symbol_of o)
 row_within held p t b j row o pair fresh is (WasOpen open_) = pair.within t b j row o is open_
 row_within held p t b j row o pair fresh is (IsPackets at same) =
-    elim (get held.objects t) as (λ i. get held.objects t ≡ i → (b < blocks o) × (j < encoding_at o b) × (length row ≡ o.symbol)) [
+    elim (get held.objects t) as (λ i. get held.objects t ≡ i → (b < blocks o) × (j < encoding_at o b) × (length row ≡ symbol_of o)) [
       | None ↦ λ e. absurd (let open_ = pair.opened t b j row is in let both : false ≡ true = sym (ap is_some e) ∙ open_ in cc)
       | Some i ↦ λ e.
           let one : i ≡ o = fresh.agrees i (ap (get held.objects) at ∙ e) ∙ same in
@@ -76,13 +76,13 @@ row_within held p t b j row o pair fresh is (IsPackets at same) =
 
 -- of a packet that has joined at its place
 packet_within : (p : SymbolPacket) (t b j : ℕ) (row : List ℕ) (o : ObjectInformation) → IsPacket p
-    → IsThere p t b j → p.oti ≡ o → full p ≡ row → (b < blocks o) × (j < encoding_at o b) × (length row ≡ o.symbol)
+    → IsThere p t b j → p.oti ≡ o → full p ≡ row → (b < blocks o) × (j < encoding_at o b) × (length row ≡ symbol_of o)
 packet_within p t b j row o packet at same is =
     let block : p.sbn < blocks o = subst (λ i. p.sbn < blocks i) same packet.block in
     let esi : p.esi < encoding_at o p.sbn = subst (λ i. p.esi < encoding_at i p.sbn) same packet.place in (
       subst (λ n. n < blocks o) at.sbn block,
       subst (λ n. j < encoding_at o n) at.sbn (subst (λ n. n < encoding_at o p.sbn) at.esi esi),
-      ap length (sym is) ∙ length_full p packet ∙ ap (λ (i : ObjectInformation). i.symbol) same,
+      ap length (sym is) ∙ length_full p packet ∙ ap (λ (i : ObjectInformation). symbol_of i) same,
     )
 
 -- no block of the packet's object has more symbols than source symbols
@@ -123,7 +123,7 @@ pair_joined held p pair packet fresh wanting = record {
       (λ test is. let at = there p t b j test in ap is_some (ap (get (joined held p).objects) (sym at.toi) ∙ open_joined held p))
       (λ test is. with_object held p t (λ i. is_some i ≡ true) (λ at. refl) (λ e. pair.opened t b j row is));
   within = λ t b j row o is open_.
-      with_row held p t b j (λ r. r ≡ Some row → (b < blocks o) × (j < encoding_at o b) × (length row ≡ o.symbol))
+      with_row held p t b j (λ r. r ≡ Some row → (b < blocks o) × (j < encoding_at o b) × (length row ≡ symbol_of o))
       (λ test e. let at = there p t b j test in packet_within p t b j row o packet at (information_joined held p t o at.toi open_) (one_value (full p) row e))
       (λ test e. row_within held p t b j row o pair fresh e (was held p t o open_)) is;
   most = λ t b o open_. most_joined held p t b o pair fresh wanting (was held p t o open_);

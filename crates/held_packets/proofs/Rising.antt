@@ -6,7 +6,7 @@ use Rattle.std.specs.FinMap.{get}
 use Rattle.std.proofs.lemmas.Bool.Decides.{nat_tests}
 use Rattle.std.proofs.lemmas.List.Sums.{fold-append}
 use Rattle.std.proofs.lemmas.List.Elements.{All-head, All-tail}
-use Rattle.oti_blocks.specs.Partition.{ObjectInformation, blocks, size_at, encoding_at}
+use Rattle.oti_blocks.specs.Partition.{ObjectInformation, blocks, size_at, encoding_at, length_of, symbol_of}
 use Rattle.alc_packet.specs.Packet.{SymbolPacket, IsPacket, full}
 use Rattle.wire_bytes.specs.Below.{all_below, count_below, join_below, which_below}
 use Rattle.wire_bytes.proofs.Public.{not_all_below}
@@ -28,8 +28,8 @@ unfolding block_bytes held_places
 same_bytes first second t o same = λ i.
     let places : ℕ → List ℕ = λ b. take (size_at o b) (which_below (encoding_at o b) (λ j. is_some (same b j i))) in
     if all_below (blocks o) (λ b. nat_le (size_at o b) (count_below (encoding_at o b) (λ j. is_some (same b j i))))
-    then Some (take o.length (join_below (blocks o)
-    (λ b. join_below (size_at o b) (λ n. source_row o.symbol (places b) (map (λ j. unwrap_or (same b j i) []) (places b)) n))))
+    then Some (take (length_of o) (join_below (blocks o)
+    (λ b. join_below (size_at o b) (λ n. source_row (symbol_of o) (places b) (map (λ j. unwrap_or (same b j i) []) (places b)) n))))
     else None
 
 -- another object's rows are as before

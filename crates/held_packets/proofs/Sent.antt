@@ -4,7 +4,7 @@ use Rattle.std.specs.Prelude.{if◌then◌else◌, nat_le, is_some}
 use Rattle.std.specs.FinMap.{get}
 use Rattle.std.proofs.lemmas.Bool.{cases_lt}
 use Rattle.std.proofs.lemmas.Bool.Decides.{nat_tests}
-use Rattle.oti_blocks.specs.Partition.{ObjectInformation, IsSound, sources, blocks, size_at, encoding_at}
+use Rattle.oti_blocks.specs.Partition.{ObjectInformation, IsSound, sources, blocks, size_at, encoding_at, symbol_of}
 use Rattle.oti_blocks.proofs.Public.{sources_bounds, blocks_pos, size_bounds}
 use Rattle.rs_code.specs.SourceRows.{IsSymbolRow}
 use Rattle.wire_bytes.proofs.Public.{length_filled, front_filled, all_same, not_all_below, count_none}
@@ -37,7 +37,7 @@ pair_of s held set session agrees = record {
       let at = held_symbol s held set t b j row agrees is in
       let sent = agrees.sent t o open_ in
       let same : at.object.oti ≡ o = ap (λ (x : Sent). x.oti) (one_object s t at.object sent.0 at.sent sent.1) ∙ sym sent.2 in
-      (subst (λ i. b < blocks i) same at.block, subst (λ i. j < encoding_at i b) same at.place, at.symbol.full ∙ ap (λ (i : ObjectInformation). i.symbol) same);
+      (subst (λ i. b < blocks i) same at.block, subst (λ i. j < encoding_at i b) same at.place, at.symbol.full ∙ ap (λ (i : ObjectInformation). symbol_of i) same);
   most = λ t b o open_. let sent = agrees.sent t o open_ in subst (λ i. symbols_held held t i b ≤ size_at i b) (sym sent.2) (agrees.most t b sent.0 sent.1);
 }
 
@@ -45,10 +45,10 @@ pair_of s held set session agrees = record {
 session_rows : (s : Session) (held set : Held) (t : ℕ) (x : Sent) → Agrees s held set → s t ≡ Some x → IsSent x → AreSourceRows held t x.oti (filled x)
 unfolding filled block_rows
 session_rows s held set t x agrees sent is = record {
-  long = length_filled (sources x.oti * x.oti.symbol) x.bytes (omega (arith, is.long, (sources_bounds x.oti is.sound).0));
+  long = length_filled (sources x.oti * symbol_of x.oti) x.bytes (omega (arith, is.long, (sources_bounds x.oti is.sound).0));
   symbols = λ b j row less found.
       let at = held_symbol s held set t b j row agrees found in
-      subst (λ (y : Sent). IsSymbolRow (block_rows y b) y.oti.symbol j row) (one_object s t at.object x at.sent sent) at.symbol;
+      subst (λ (y : Sent). IsSymbolRow (block_rows y b) (symbol_of y.oti) j row) (one_object s t at.object x at.sent sent) at.symbol;
 }
 
 -- ---- ready in both
@@ -93,7 +93,7 @@ unopened_not_ready s held set t x agrees sent is closed =
 -- the sent bytes stand at the front of the filled ones
 front_of : (x : Sent) → take (length x.bytes) (filled x) ≡ x.bytes
 unfolding filled
-front_of x = front_filled (sources x.oti * x.oti.symbol) x.bytes
+front_of x = front_filled (sources x.oti * symbol_of x.oti) x.bytes
 
 -- of an object that is open
 open_is : (s : Session) (held set : Held) (t : ℕ) (o : ObjectInformation) → IsSession s

@@ -1,7 +1,7 @@
 -- Rows that are encoding symbols of a session's blocks.
 use Rattle.std.proofs.Common.{◌≡◌, ℕ, ◌<◌, ◌≤◌, List, get_or, Some, sym, subst, ◌∙◌, arith}
 use Rattle.std.proofs.lemmas.List.{ext_get_or}
-use Rattle.oti_blocks.specs.Partition.{IsSound, blocks, size_at, encoding_at}
+use Rattle.oti_blocks.specs.Partition.{IsSound, blocks, size_at, encoding_at, symbol_of}
 use Rattle.oti_blocks.proofs.Public.{size_bounds}
 use Rattle.alc_packet.specs.Packet.{SymbolPacket, IsPacket, full}
 use Rattle.rs_code.specs.SourceRows.{cut, column, IsSymbolRow}
@@ -15,7 +15,7 @@ pub record IsSymbolAt (s : Session) (t b j : ℕ) (row : List ℕ) : Type 0 wher
   pub sound : IsSound object.oti
   pub block : b < blocks object.oti
   pub place : j < encoding_at object.oti b
-  pub symbol : IsSymbolRow (block_rows object b) object.oti.symbol j row
+  pub symbol : IsSymbolRow (block_rows object b) (symbol_of object.oti) j row
 
 -- two rows that are one symbol are equal
 pub one_row : (k size j : ℕ) (bytes row other : List ℕ) → k ≤ 255 → IsSymbolRow (cut k size bytes) size j row → IsSymbolRow (cut k size bytes) size j other → row ≡ other
@@ -36,8 +36,8 @@ unfolding block_rows
 same_symbol s t b j row other is also =
     let same = one_object s t also.object is.object also.sent is.sent in
     let bounds = size_bounds is.object.oti is.sound b is.block in
-    one_row (size_at is.object.oti b) is.object.oti.symbol j _ row other (omega (arith, bounds.1, is.sound.block_within, is.sound.max_n_fits)) is.symbol
-    (subst (λ (x : Sent). IsSymbolRow (block_rows x b) x.oti.symbol j other) same also.symbol)
+    one_row (size_at is.object.oti b) (symbol_of is.object.oti) j _ row other (omega (arith, bounds.1, is.sound.block_within, is.sound.max_n_fits)) is.symbol
+    (subst (λ (x : Sent). IsSymbolRow (block_rows x b) (symbol_of x.oti) j other) same also.symbol)
 
 -- the filled symbol of a packet that belongs to the session
 pub symbol_of_packet : (s : Session) (p : SymbolPacket) → IsPacket p → Belongs s p → IsSymbolAt s p.toi p.sbn p.esi (full p)

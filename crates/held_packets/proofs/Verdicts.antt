@@ -5,7 +5,7 @@ use Rattle.std.specs.Str.{bytes_eq}
 use Rattle.std.specs.FinMap.{get}
 use Rattle.std.proofs.lemmas.Bool.{and_parts}
 use Rattle.std.proofs.lemmas.Bool.Decides.{nat_tests}
-use Rattle.oti_blocks.specs.Partition.{ObjectInformation, size_at}
+use Rattle.oti_blocks.specs.Partition.{ObjectInformation, size_at, length_of, symbol_of, max_block_of, max_n_of}
 use Rattle.alc_packet.specs.Packet.{SymbolPacket, full}
 use Rattle.held_packets.specs.declared.kept.Kept.{Kept}
 use Rattle.held_packets.specs.declared.kept.Kept.TheVariants.{Repeat, Spare, OtiDiffers, SymbolDiffers, OverBudget}
@@ -25,13 +25,13 @@ pub record IsNew (budget : ℕ) (held : Held) (p : SymbolPacket) : Type 0 where
 -- equal parts make equal information
 pub same_is_equal : (o u : ObjectInformation) → same_information o u ≡ true → o ≡ u
 same_is_equal o u h =
-    let first = and_parts ((o.length == u.length) && (o.symbol == u.symbol) && (o.max_block == u.max_block)) (o.max_n == u.max_n) h in
-    let second = and_parts ((o.length == u.length) && (o.symbol == u.symbol)) (o.max_block == u.max_block) first.0 in
-    let third = and_parts (o.length == u.length) (o.symbol == u.symbol) second.0 in
-    let a = eqb-true o.length u.length third.0 in
-    let b = eqb-true o.symbol u.symbol third.1 in
-    let c = eqb-true o.max_block u.max_block second.1 in
-    let d = eqb-true o.max_n u.max_n first.1 in
+    let first = and_parts ((length_of o == length_of u) && (symbol_of o == symbol_of u) && (max_block_of o == max_block_of u)) (max_n_of o == max_n_of u) h in
+    let second = and_parts ((length_of o == length_of u) && (symbol_of o == symbol_of u)) (max_block_of o == max_block_of u) first.0 in
+    let third = and_parts (length_of o == length_of u) (symbol_of o == symbol_of u) second.0 in
+    let a = eqb-true (length_of o) (length_of u) third.0 in
+    let b = eqb-true (symbol_of o) (symbol_of u) third.1 in
+    let c = eqb-true (max_block_of o) (max_block_of u) second.1 in
+    let d = eqb-true (max_n_of o) (max_n_of u) first.1 in
     λ i. record { length = a i; symbol = b i; max_block = c i; max_n = d i }
 
 -- what isn't at most m is above it

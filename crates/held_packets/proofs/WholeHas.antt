@@ -10,7 +10,7 @@ use Rattle.std.proofs.lemmas.List.{ext_get_or, get_or-map, get_or-drop, get_or-a
 use Rattle.std.proofs.lemmas.List.FromFn.{get_or-map-range_with_len, length-map-range_with_len}
 use Rattle.gf256.specs.Polynomial.{AreBytes, power}
 use Rattle.gf256.proofs.Public.{power_lt}
-use Rattle.oti_blocks.specs.Partition.{ObjectInformation, IsSound, blocks, size_at, start_at, encoding_at}
+use Rattle.oti_blocks.specs.Partition.{ObjectInformation, IsSound, blocks, size_at, start_at, encoding_at, symbol_of}
 use Rattle.oti_blocks.proofs.Public.{start-next, start_last}
 use Rattle.rs_code.specs.Symbol.{IsSymbol}
 use Rattle.rs_code.specs.SourceRows.{cut, column}
@@ -104,29 +104,29 @@ row_starts k size places rows = record {
 
 -- the computed rows of the block, one after the other
 abbrev rows_of_block : Held → ℕ → ObjectInformation → ℕ → ℕ → List ℕ
-rows_of_block held t o b i = source_row o.symbol (held_places held t o b) (rows_at held t b (held_places held t o b)) i
+rows_of_block held t o b i = source_row (symbol_of o) (held_places held t o b) (rows_at held t b (held_places held t o b)) i
 
-length_block : (held : Held) (t b : ℕ) (o : ObjectInformation) → length (block_bytes held t o b) ≡ size_at o b * o.symbol
+length_block : (held : Held) (t b : ℕ) (o : ObjectInformation) → length (block_bytes held t o b) ≡ size_at o b * symbol_of o
 unfolding block_bytes
-length_block held t b o = length_join (size_at o b) (rows_of_block held t o b) (λ i. i * o.symbol)
-    (row_starts (size_at o b) o.symbol (held_places held t o b) (rows_at held t b (held_places held t o b)))
+length_block held t b o = length_join (size_at o b) (rows_of_block held t o b) (λ i. i * symbol_of o)
+    (row_starts (size_at o b) (symbol_of o) (held_places held t o b) (rows_at held t b (held_places held t o b)))
 
-byte_of_block : (held : Held) (t b i at : ℕ) (o : ObjectInformation) → i < size_at o b → at < o.symbol
-    → get_or (block_bytes held t o b) (i * o.symbol + at) 0 ≡ source_byte (held_places held t o b) (column (rows_at held t b (held_places held t o b)) at) i
+byte_of_block : (held : Held) (t b i at : ℕ) (o : ObjectInformation) → i < size_at o b → at < symbol_of o
+    → get_or (block_bytes held t o b) (i * symbol_of o + at) 0 ≡ source_byte (held_places held t o b) (column (rows_at held t b (held_places held t o b)) at) i
 unfolding block_bytes
 byte_of_block held t b i at o less within =
     let places = held_places held t o b in
     let rows = rows_at held t b places in
-    get_or-join (size_at o b) (rows_of_block held t o b) (λ n. n * o.symbol) i
-    at (row_starts (size_at o b) o.symbol places rows) less (omega (arith, length_row o.symbol i places rows, within))
-    ∙ byte_of_row o.symbol i at places rows within
+    get_or-join (size_at o b) (rows_of_block held t o b) (λ n. n * symbol_of o) i
+    at (row_starts (size_at o b) (symbol_of o) places rows) less (omega (arith, length_row (symbol_of o) i places rows, within))
+    ∙ byte_of_row (symbol_of o) i at places rows within
 
-block_starts : (held : Held) (t : ℕ) (o : ObjectInformation) → IsSound o → Starts (blocks o) (λ b. block_bytes held t o b) (λ b. start_at o b * o.symbol)
+block_starts : (held : Held) (t : ℕ) (o : ObjectInformation) → IsSound o → Starts (blocks o) (λ b. block_bytes held t o b) (λ b. start_at o b * symbol_of o)
 block_starts held t o sound = record {
-  first = let none : 0 * o.symbol ≡ 0 = omega arith in none;
+  first = let none : 0 * symbol_of o ≡ 0 = omega arith in none;
   next = λ c less.
-      let split : (start_at o c + size_at o c) * o.symbol ≡ start_at o c * o.symbol + size_at o c * o.symbol = omega arith in
-      ap (λ n. n * o.symbol) (start-next o sound c less) ∙ split ∙ ap (λ n. start_at o c * o.symbol + n) (sym (length_block held t c o));
+      let split : (start_at o c + size_at o c) * symbol_of o ≡ start_at o c * symbol_of o + size_at o c * symbol_of o = omega arith in
+      ap (λ n. n * symbol_of o) (start-next o sound c less) ∙ split ∙ ap (λ n. start_at o c * symbol_of o + n) (sym (length_block held t c o));
 }
 
 -- the bytes of all blocks
@@ -134,25 +134,25 @@ abbrev pub all_rows : Held → ℕ → ObjectInformation → List ℕ
 all_rows held t o = join_below (blocks o) (λ b. block_bytes held t o b)
 
 -- a column of the rows of a block
-column_is : (held : Held) (t b at : ℕ) (o : ObjectInformation) → IsSound o → b < blocks o → is_block_ready held t o b ≡ true → at < o.symbol
-    → column (cut (size_at o b) o.symbol (drop (start_at o b * o.symbol) (all_rows held t o))) at
+column_is : (held : Held) (t b at : ℕ) (o : ObjectInformation) → IsSound o → b < blocks o → is_block_ready held t o b ≡ true → at < symbol_of o
+    → column (cut (size_at o b) (symbol_of o) (drop (start_at o b * symbol_of o) (all_rows held t o))) at
     ≡ list_below (length (held_places held t o b)) (source_byte (held_places held t o b) (column (rows_at held t b (held_places held t o b)) at))
 column_is held t b at o sound less ready within =
     let places = held_places held t o b in
     let rows = rows_at held t b places in
     let k = size_at o b in
-    let rest = drop (start_at o b * o.symbol) (all_rows held t o) in
+    let rest = drop (start_at o b * symbol_of o) (all_rows held t o) in
     let count = length_places held t b o ready in
-    let long = length-column k o.symbol at rest in
+    let long = length-column k (symbol_of o) at rest in
     let wide = length-map-range_with_len (source_byte places (column rows at)) 0 (length places) in
     ext_get_or 0 _ _ (long ∙ sym count ∙ sym wide)
     (λ i lt.
     let inside : i < k = omega (arith, lt, long) in
-    let room : i * o.symbol + at < length (block_bytes held t o b) =
-    omega (arith, length_block held t b o, mul-le (i + 1) o.symbol k o.symbol (omega arith) (omega arith), within) in
-    get_or-column k o.symbol at i rest inside within
-    ∙ get_or-drop (start_at o b * o.symbol) (all_rows held t o) (i * o.symbol + at) 0
-    ∙ get_or-join (blocks o) (λ c. block_bytes held t o c) (λ c. start_at o c * o.symbol) b (i * o.symbol + at) (block_starts held t o sound) less room
+    let room : i * symbol_of o + at < length (block_bytes held t o b) =
+    omega (arith, length_block held t b o, mul-le (i + 1) (symbol_of o) k (symbol_of o) (omega arith) (omega arith), within) in
+    get_or-column k (symbol_of o) at i rest inside within
+    ∙ get_or-drop (start_at o b * symbol_of o) (all_rows held t o) (i * symbol_of o + at) 0
+    ∙ get_or-join (blocks o) (λ c. block_bytes held t o c) (λ c. start_at o c * symbol_of o) b (i * symbol_of o + at) (block_starts held t o sound) less room
     ∙ byte_of_block held t b i at o inside within
     ∙ sym (get_or-map-range_with_len (source_byte places (column rows at)) 0 (length places) i i 0 (omega (arith, count, inside)) (omega arith)))
 
@@ -166,7 +166,7 @@ held_are_all held t b o most = take_all (size_at o b) (which_below (encoding_at 
 
 -- a row that is held is the symbol of its place, of the computed rows
 column_symbol : (held : Held) (t b j at : ℕ) (o : ObjectInformation) (row : List ℕ) → IsHeldPair held
-    → AreByteRows held → get held.objects t ≡ Some o → b < blocks o → is_block_ready held t o b ≡ true → at < o.symbol
+    → AreByteRows held → get held.objects t ≡ Some o → b < blocks o → is_block_ready held t o b ≡ true → at < symbol_of o
     → row_at held (place t b j) ≡ Some row
     → IsSymbol (list_below (length (held_places held t o b))
     (source_byte (held_places held t o b) (column (rows_at held t b (held_places held t o b)) at))) j (slice_index row at)
@@ -217,8 +217,8 @@ pub whole_has : (held : Held) (t : ℕ) (o : ObjectInformation) → IsHeldPair h
     → get held.objects t ≡ Some o → is_ready held t o ≡ true → AreSourceRows held t o (all_rows held t o)
 whole_has held t o pair bytes open_ ready =
     let sound = pair.sound t o open_ in record {
-      long = length_join (blocks o) (λ b. block_bytes held t o b) (λ b. start_at o b * o.symbol)
-          (block_starts held t o sound) ∙ ap (λ n. n * o.symbol) (start_last o sound);
+      long = length_join (blocks o) (λ b. block_bytes held t o b) (λ b. start_at o b * symbol_of o)
+          (block_starts held t o sound) ∙ ap (λ n. n * symbol_of o) (start_last o sound);
       symbols = λ b j row less found.
           let done = passes_below (blocks o) b (is_block_ready held t o) ready less in record {
             full = (pair.within t b j row o found open_).2;

@@ -9,7 +9,7 @@ use Rattle.std.proofs.lemmas.List.{ext_get_or, get_or-map, get_or-drop, get_or-t
 use Rattle.std.proofs.lemmas.Nat.{mul-le}
 use Rattle.std.proofs.lemmas.List.FromFn.{get_or-map-range_with_len, length-map-range_with_len}
 use Rattle.std.proofs.lemmas.List.Elements.{All-take}
-use Rattle.oti_blocks.specs.Partition.{ObjectInformation, IsSound, sources, blocks, size_at, start_at, encoding_at}
+use Rattle.oti_blocks.specs.Partition.{ObjectInformation, IsSound, sources, blocks, size_at, start_at, encoding_at, length_of, symbol_of}
 use Rattle.oti_blocks.proofs.Public.{size_bounds, encoding_at_bounds, block_end, start-next, start_last}
 use Rattle.rs_code.specs.Symbol.{IsSymbol}
 use Rattle.rs_code.specs.SourceRows.{cut, column}
@@ -36,15 +36,15 @@ join_rows (suc n) size xs =
 
 -- and blocks cut from the rows of an object
 join_blocks : (o : ObjectInformation) (xs : List ℕ) (n : ℕ) → IsSound o → n ≤ blocks o
-    → join_below n (λ b. take (size_at o b * o.symbol) (drop (start_at o b * o.symbol) xs)) ≡ take (start_at o n * o.symbol) xs
-join_blocks o xs zero sound le = let none : 0 ≡ 0 * o.symbol = omega arith in ap (λ (m : ℕ). take m xs) none
+    → join_below n (λ b. take (size_at o b * symbol_of o) (drop (start_at o b * symbol_of o) xs)) ≡ take (start_at o n * symbol_of o) xs
+join_blocks o xs zero sound le = let none : 0 ≡ 0 * symbol_of o = omega arith in ap (λ (m : ℕ). take m xs) none
 join_blocks o xs (suc n) sound le =
     let one : suc n ≡ n + 1 = omega arith in
     let next : start_at o (suc n) ≡ start_at o n + size_at o n = ap (start_at o) one ∙ start-next o sound n (omega arith) in
-    let split : (start_at o n + size_at o n) * o.symbol ≡ start_at o n * o.symbol + size_at o n * o.symbol = omega arith in
-    let more : start_at o (suc n) * o.symbol ≡ start_at o n * o.symbol + size_at o n * o.symbol = ap (λ (m : ℕ). m * o.symbol) next ∙ split in
-    ap (λ (ys : List ℕ). ys ++ take (size_at o n * o.symbol) (drop (start_at o n * o.symbol) xs)) (join_blocks o xs n sound (omega arith))
-    ∙ sym (ap (λ (m : ℕ). take m xs) more ∙ take-add (start_at o n * o.symbol) (size_at o n * o.symbol) xs)
+    let split : (start_at o n + size_at o n) * symbol_of o ≡ start_at o n * symbol_of o + size_at o n * symbol_of o = omega arith in
+    let more : start_at o (suc n) * symbol_of o ≡ start_at o n * symbol_of o + size_at o n * symbol_of o = ap (λ (m : ℕ). m * symbol_of o) next ∙ split in
+    ap (λ (ys : List ℕ). ys ++ take (size_at o n * symbol_of o) (drop (start_at o n * symbol_of o) xs)) (join_blocks o xs n sound (omega arith))
+    ∙ sym (ap (λ (m : ℕ). take m xs) more ∙ take-add (start_at o n * symbol_of o) (size_at o n * symbol_of o) xs)
 
 -- ---- the held places of a block that is ready
 
@@ -89,7 +89,7 @@ are_places held t b o sound less ready =
 
 -- what the held rows are symbols of, as bytes from where the block starts
 abbrev block_from : ObjectInformation → List ℕ → ℕ → List ℕ
-block_from o rows b = drop (start_at o b * o.symbol) rows
+block_from o rows b = drop (start_at o b * symbol_of o) rows
 
 -- the value at a place of an option that is there
 there : (o : Option (List ℕ)) → is_some o ≡ true → o ≡ Some (unwrap_or o [])
@@ -97,8 +97,8 @@ there None e = cc
 there (Some row) e = refl
 
 -- each column of held rows has the symbols of the column of rows
-have_symbols : (held : Held) (t b at : ℕ) (o : ObjectInformation) (rows : List ℕ) → AreSourceRows held t o rows → b < blocks o → at < o.symbol
-    → HaveSymbols (column (cut (size_at o b) o.symbol (block_from o rows b)) at) (held_places held t o b) (column (rows_at held t b (held_places held t o b)) at)
+have_symbols : (held : Held) (t b at : ℕ) (o : ObjectInformation) (rows : List ℕ) → AreSourceRows held t o rows → b < blocks o → at < symbol_of o
+    → HaveSymbols (column (cut (size_at o b) (symbol_of o) (block_from o rows b)) at) (held_places held t o b) (column (rows_at held t b (held_places held t o b)) at)
 have_symbols held t b at o rows are less lt i within =
     let places = held_places held t o b in
     let j = get_or places i 0 in
@@ -110,12 +110,12 @@ have_symbols held t b at o rows are less lt i within =
     let value : get_or (column (rows_at held t b places) at) i 0 ≡ slice_index row at =
     get_or-map (λ (r : List ℕ). slice_index r at) (rows_at held t b places) i [] 0 many
     ∙ ap (λ (r : List ℕ). slice_index r at) (get_or-map (λ j. row_or_none held t b j) places i 0 [] within) in
-    subst (IsSymbol (column (cut (size_at o b) o.symbol (block_from o rows b)) at) j) (sym value) is
+    subst (IsSymbol (column (cut (size_at o b) (symbol_of o) (block_from o rows b)) at) j) (sym value) is
 
 -- row i of the block
 row_is : (held : Held) (t b i : ℕ) (o : ObjectInformation) (rows : List ℕ) → IsSound o
     → AreSourceRows held t o rows → b < blocks o → is_block_ready held t o b ≡ true → i < size_at o b
-    → source_row o.symbol (held_places held t o b) (rows_at held t b (held_places held t o b)) i ≡ take o.symbol (drop (i * o.symbol) (block_from o rows b))
+    → source_row (symbol_of o) (held_places held t o b) (rows_at held t b (held_places held t o b)) i ≡ take (symbol_of o) (drop (i * symbol_of o) (block_from o rows b))
 unfolding source_row
 row_is held t b i o rows sound are less ready lt =
     let places = held_places held t o b in
@@ -123,46 +123,46 @@ row_is held t b i o rows sound are less ready lt =
     let block = block_from o rows b in
     let count = length_places held t b o ready in
     let ends = block_end o sound b less in
-    let enough : (start_at o b + size_at o b) * o.symbol ≤ length rows = subst (λ (n : ℕ). (start_at o b + size_at o b) * o.symbol ≤ n)
-    (sym are.long) (scaled (start_at o b + size_at o b) (sources o) o.symbol ends) in
-    let room : i * o.symbol + o.symbol ≤ length block =
-    omega (arith, length-drop (start_at o b * o.symbol) rows, enough, scaled (i + 1) (size_at o b) o.symbol (omega arith)) in
+    let enough : (start_at o b + size_at o b) * symbol_of o ≤ length rows = subst (λ (n : ℕ). (start_at o b + size_at o b) * symbol_of o ≤ n)
+    (sym are.long) (scaled (start_at o b + size_at o b) (sources o) (symbol_of o) ends) in
+    let room : i * symbol_of o + symbol_of o ≤ length block =
+    omega (arith, length-drop (start_at o b * symbol_of o) rows, enough, scaled (i + 1) (size_at o b) (symbol_of o) (omega arith)) in
     ext_get_or 0 _ _
-    (length-map-range_with_len (λ at. source_byte places (column held_rows at) i) 0 o.symbol
-    ∙ sym (let l = length-take o.symbol (drop (i * o.symbol) block) in let m = length-drop (i * o.symbol) block in omega (arith, l, m, room)))
+    (length-map-range_with_len (λ at. source_byte places (column held_rows at) i) 0 (symbol_of o)
+    ∙ sym (let l = length-take (symbol_of o) (drop (i * symbol_of o) block) in let m = length-drop (i * symbol_of o) block in omega (arith, l, m, room)))
     (λ at within.
-    let lat : at < o.symbol = omega (arith, within, length-map-range_with_len (λ at. source_byte places (column held_rows at) i) 0 o.symbol) in
-    let column_is = byte_from_symbols (column (cut (size_at o b) o.symbol block) at) places (column held_rows at) i (are_places held t b o sound less ready)
-    (length-column (size_at o b) o.symbol at block ∙ sym count) (length-map held_rows (λ (r : List ℕ). slice_index r at)
+    let lat : at < symbol_of o = omega (arith, within, length-map-range_with_len (λ at. source_byte places (column held_rows at) i) 0 (symbol_of o)) in
+    let column_is = byte_from_symbols (column (cut (size_at o b) (symbol_of o) block) at) places (column held_rows at) i (are_places held t b o sound less ready)
+    (length-column (size_at o b) (symbol_of o) at block ∙ sym count) (length-map held_rows (λ (r : List ℕ). slice_index r at)
     ∙ length-map places (λ j. row_or_none held t b j)) (have_symbols held t b at o rows are less lat) (omega (arith, count)) in
-    get_or-map-range_with_len (λ at. source_byte places (column held_rows at) i) 0 o.symbol at at 0 lat (omega arith)
+    get_or-map-range_with_len (λ at. source_byte places (column held_rows at) i) 0 (symbol_of o) at at 0 lat (omega arith)
     ∙ column_is
-    ∙ get_or-column (size_at o b) o.symbol at i block lt lat
-    ∙ sym (get_or-take o.symbol (drop (i * o.symbol) block) at 0 lat ∙ get_or-drop (i * o.symbol) block at 0))
+    ∙ get_or-column (size_at o b) (symbol_of o) at i block lt lat
+    ∙ sym (get_or-take (symbol_of o) (drop (i * symbol_of o) block) at 0 lat ∙ get_or-drop (i * symbol_of o) block at 0))
   where
     scaled : (a b e : ℕ) → a ≤ b → a * e ≤ b * e
     scaled a b e le = mul-le a e b e le (omega arith)
 
 -- the bytes of the block
 block_is : (held : Held) (t b : ℕ) (o : ObjectInformation) (rows : List ℕ) → IsSound o → AreSourceRows held t o rows → b < blocks o → is_block_ready held t o b ≡ true
-    → block_bytes held t o b ≡ take (size_at o b * o.symbol) (block_from o rows b)
+    → block_bytes held t o b ≡ take (size_at o b * symbol_of o) (block_from o rows b)
 unfolding block_bytes
 block_is held t b o rows sound are less ready =
-    join_same (size_at o b) (λ i. source_row o.symbol (held_places held t o b) (rows_at held t b (held_places held t o b)) i)
-    (λ i. take o.symbol (drop (i * o.symbol) (block_from o rows b)))
+    join_same (size_at o b) (λ i. source_row (symbol_of o) (held_places held t o b) (rows_at held t b (held_places held t o b)) i)
+    (λ i. take (symbol_of o) (drop (i * symbol_of o) (block_from o rows b)))
     (λ i lt. row_is held t b i o rows sound are less ready lt)
-    ∙ join_rows (size_at o b) o.symbol (block_from o rows b)
+    ∙ join_rows (size_at o b) (symbol_of o) (block_from o rows b)
 
 -- what is whole of an object that is ready, by any rows whose symbols at the held places are the held rows
 pub whole_only : (held : Held) (t : ℕ) (o : ObjectInformation) (rows : List ℕ) → IsHeldPair held
     → get held.objects t ≡ Some o → is_ready held t o ≡ true → AreSourceRows held t o rows
-    → whole held t ≡ Some (take o.length rows)
+    → whole held t ≡ Some (take (length_of o) rows)
 unfolding whole
 whole_only held t o rows pair open_ ready are =
     let sound = pair.sound t o open_ in
     let joined : join_below (blocks o) (λ b. block_bytes held t o b) ≡ rows =
-    join_same (blocks o) (λ b. block_bytes held t o b) (λ b. take (size_at o b * o.symbol) (block_from o rows b))
+    join_same (blocks o) (λ b. block_bytes held t o b) (λ b. take (size_at o b * symbol_of o) (block_from o rows b))
     (λ b less. block_is held t b o rows sound are less (passes_below (blocks o) b (is_block_ready held t o) ready less))
     ∙ join_blocks o rows (blocks o) sound (omega arith)
-    ∙ take_all (start_at o (blocks o) * o.symbol) rows (let s = start_last o sound in omega (arith, are.long, ap (λ (n : ℕ). n * o.symbol) s)) in
-    ap (bytes_when_ready held t) open_ ∙ rw ready (ap (λ (xs : List ℕ). Some (take o.length xs)) joined)
+    ∙ take_all (start_at o (blocks o) * symbol_of o) rows (let s = start_last o sound in omega (arith, are.long, ap (λ (n : ℕ). n * symbol_of o) s)) in
+    ap (bytes_when_ready held t) open_ ∙ rw ready (ap (λ (xs : List ℕ). Some (take (length_of o) xs)) joined)

@@ -3,11 +3,11 @@ use Rattle.std.specs.Prelude.{ℕ, List, refl}
 use Rattle.std.specs.Coded.{Coded, code_by, coded×, coded_ℕ, coded_list}
 use Rattle.std.specs.Ordering.{nat_cmp}
 use Rattle.std.specs.FinMap.{FinMap, code}
-use Rattle.oti_blocks.specs.Partition.{ObjectInformation}
+use Rattle.oti_blocks.specs.Partition.{ObjectInformation, length_of, symbol_of, max_block_of, max_n_of}
 use Rattle.held_packets.specs.Held.{Held, Place, place_cmp}
 
 abbrev pub information_code : Coded ObjectInformation
-information_code = code_by (ℕ × (ℕ × (ℕ × ℕ))) (coded× coded_ℕ (coded× coded_ℕ (coded× coded_ℕ coded_ℕ))) (λ o. (o.length, (o.symbol, (o.max_block, o.max_n))))
+information_code = code_by (ℕ × (ℕ × (ℕ × ℕ))) (coded× coded_ℕ (coded× coded_ℕ (coded× coded_ℕ coded_ℕ))) (λ o. (length_of o, (symbol_of o, (max_block_of o, max_n_of o))))
     (λ p. record { length = p.0; symbol = p.1.0; max_block = p.1.1.0; max_n = p.1.1.1 }) (λ _. refl)
 
 abbrev pub place_code : Coded Place

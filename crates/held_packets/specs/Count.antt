@@ -3,13 +3,13 @@ use Rattle.std.specs.Prelude.{ℕ, ◌+◌, ◌*◌, ◌==◌, if◌then◌else�
 use Rattle.std.specs.List.{sum_by}
 use Rattle.std.specs.FinMap.{get, entries}
 use Rattle.wire_bytes.specs.Below.{sum_below}
-use Rattle.oti_blocks.specs.Partition.{ObjectInformation, blocks}
+use Rattle.oti_blocks.specs.Partition.{ObjectInformation, blocks, symbol_of}
 use Rattle.alc_packet.specs.Packet.{SymbolPacket}
 use Rattle.held_packets.specs.Held.{Held, symbols_held}
 
 -- 64 for a block with a place, and the symbol's length for each place
 abbrev pub block_count : ObjectInformation → ℕ → ℕ
-block_count o held = if held == 0 then 0 else 64 + o.symbol * held
+block_count o held = if held == 0 then 0 else 64 + symbol_of o * held
 
 -- 256 for an object, and its blocks
 abbrev pub object_count : Held → ℕ → ObjectInformation → ℕ
@@ -24,4 +24,4 @@ unfoldable pub charge : Held → SymbolPacket → ℕ
 charge held p =
     (if is_some (get held.objects p.toi) then 0 else 256)
     + (if symbols_held held p.toi p.oti p.sbn == 0 then 64 else 0)
-    + p.oti.symbol
+    + symbol_of p.oti

@@ -4,7 +4,7 @@ use Rattle.std.specs.List.{position_from, zip}
 use Rattle.std.specs.declared.cmp.Ordering.{Ordering}
 use Rattle.std.specs.Ordering.{nat_cmp, ordering_then}
 use Rattle.std.specs.FinMap.{FinMap, empty, get, insert}
-use Rattle.oti_blocks.specs.Partition.{ObjectInformation, encoding_at}
+use Rattle.oti_blocks.specs.Partition.{ObjectInformation, encoding_at, length_of, symbol_of, max_block_of, max_n_of}
 use Rattle.alc_packet.specs.Packet.{SymbolPacket, full}
 use Rattle.wire_bytes.specs.Below.{count_below}
 
@@ -44,7 +44,7 @@ place_of p = place p.toi p.sbn p.esi
 
 -- the same transmission information
 abbrev pub same_information : ObjectInformation → ObjectInformation → Bool
-same_information o u = (o.length == u.length) && (o.symbol == u.symbol) && (o.max_block == u.max_block) && (o.max_n == u.max_n)
+same_information o u = (length_of o == length_of u) && (symbol_of o == symbol_of u) && (max_block_of o == max_block_of u) && (max_n_of o == max_n_of u)
 
 -- the first place at which two rows differ
 abbrev pub first_difference : List ℕ → List ℕ → ℕ

@@ -3,7 +3,7 @@ use Rattle.std.specs.Prelude.{◌≡◌, ℕ, ◌+◌, ◌*◌, ◌==◌, min, i
 use Rattle.std.specs.List.{fold, sum_by}
 use Rattle.std.specs.FinMap.{entries}
 use Rattle.wire_bytes.specs.Below.{sum_below}
-use Rattle.oti_blocks.specs.Partition.{ObjectInformation, blocks, size_at}
+use Rattle.oti_blocks.specs.Partition.{ObjectInformation, blocks, size_at, symbol_of}
 use Rattle.alc_packet.specs.Packet.{SymbolPacket, full}
 use Rattle.held_packets.specs.Held.{Held, nothing_held, symbols_held, joined}
 use Rattle.held_packets.specs.Verdict.{verdict, step, is_kept, is_over_budget}
@@ -53,7 +53,7 @@ gathered ps = fold joined nothing_held ps
 
 -- 64 for a block with a symbol, and the symbol's length for each distinct one, but for no more than k
 abbrev pub capped_count : ObjectInformation → ℕ → ℕ → ℕ
-capped_count o k distinct = if distinct == 0 then 0 else 64 + o.symbol * min k distinct
+capped_count o k distinct = if distinct == 0 then 0 else 64 + symbol_of o * min k distinct
 
 abbrev pub object_total : Held → ℕ → ObjectInformation → ℕ
 object_total set t o = 256 + sum_below (blocks o) (λ b. capped_count o (size_at o b) (symbols_held set t o b))

@@ -1,5 +1,6 @@
 -- Sessions and the packets that belong to them (RFC 5651, section 2; RFC 5510, section 8).
 use Rattle.std.specs.Prelude.{◌≡◌, ℕ, List, Option, Some, All}
+use Rattle.oti_blocks.specs.Partition.{symbol_of}
 pub use Rattle.oti_blocks.specs.Sent.{Sent, IsSent}
 unfoldable pub use Rattle.oti_blocks.specs.Sent.{filled, block_rows}
 use Rattle.alc_packet.specs.Packet.{SymbolPacket, IsPacket, full}
@@ -18,7 +19,7 @@ pub record Belongs (s : Session) (p : SymbolPacket) : Type 0 where
   pub object : Sent
   pub sent : s p.toi ≡ Some object
   pub information : p.oti ≡ object.oti
-  pub symbol : IsSymbolRow (block_rows object p.sbn) object.oti.symbol p.esi (full p)
+  pub symbol : IsSymbolRow (block_rows object p.sbn) (symbol_of object.oti) p.esi (full p)
 
 pub record IsOf (s : Session) (p : SymbolPacket) : Type 0 where
   pub packet : IsPacket p

@@ -5,7 +5,7 @@ use Rattle.std.specs.List.{position_from, zip}
 use Rattle.std.specs.FinMap.{get}
 use Rattle.std.proofs.lemmas.List.{length-drop, length-take, take-append-drop}
 use Rattle.std.proofs.lemmas.Nat.{mul-le}
-use Rattle.oti_blocks.specs.Partition.{ObjectInformation, IsSound, sources, blocks, size_at, start_at, encoding_at}
+use Rattle.oti_blocks.specs.Partition.{ObjectInformation, IsSound, sources, blocks, size_at, start_at, encoding_at, symbol_of}
 use Rattle.oti_blocks.proofs.Public.{block_end}
 use Rattle.alc_packet.specs.Packet.{SymbolPacket, IsPacket, full}
 use Rattle.wire_bytes.specs.Bytes.{zero_filled}
@@ -34,13 +34,13 @@ part_ends o b width n sound less all =
 
 -- a joined block by its places and its own rows alone
 joined_is_seen : (o : ObjectInformation) (places bytes source : List ℕ) (b : ℕ) → length (places_of o places b) ≡ size_at o b
-    → size_at o b * o.symbol ≤ length (rows_from o bytes b) → source ≡ take (size_at o b * o.symbol) (rows_from o bytes b)
-    → seen_as (size_at o b) (encoding_at o b) o.symbol (places_of o places b) (rows_held (size_at o b) o.symbol (places_of o places b) source)
+    → size_at o b * symbol_of o ≤ length (rows_from o bytes b) → source ≡ take (size_at o b * symbol_of o) (rows_from o bytes b)
+    → seen_as (size_at o b) (encoding_at o b) (symbol_of o) (places_of o places b) (rows_held (size_at o b) (symbol_of o) (places_of o places b) source)
     ≡ joined_block o places bytes b
 unfolding joined_block
 joined_is_seen o places bytes source b many long is =
     let k = size_at o b in
-    let e = o.symbol in
+    let e = symbol_of o in
     let xs = rows_from o bytes b in
     let same : cut k e source ≡ cut k e xs = ap (cut k e) is ∙ sym (cut_front k e (take (k * e) xs) (drop (k * e) xs) (omega (arith, length-take (k * e) xs, long)))
     ∙ ap (cut k e) (take-append-drop (k * e) xs) in
@@ -55,18 +55,18 @@ joined_row : (o : ObjectInformation) (places bytes : List ℕ) (b j : ℕ) → N
     → get (joined_block o places bytes b).rows j ≡ None
 unfolding joined_block
 joined_row o places bytes b j none =
-    row_at_position o.symbol j (places_of o places b) (symbols_at (size_at o b) o.symbol (rows_from o bytes b) (places_of o places b))
-    ∙ ap (option_map (row_at o.symbol (symbols_at (size_at o b) o.symbol (rows_from o bytes b) (places_of o places b)))) (sym none)
+    row_at_position (symbol_of o) j (places_of o places b) (symbols_at (size_at o b) (symbol_of o) (rows_from o bytes b) (places_of o places b))
+    ∙ ap (option_map (row_at (symbol_of o) (symbols_at (size_at o b) (symbol_of o) (rows_from o bytes b) (places_of o places b)))) (sym none)
 
 pub found_joined : (p : SymbolPacket) (places bytes source : List ℕ) (at : ℕ) (d : Option ℕ) → IsPacket p → length places ≡ sources p.oti
-    → length bytes ≡ sources p.oti * p.oti.symbol → source ≡ take (size_at p.oti p.sbn * p.oti.symbol) (rows_from p.oti bytes p.sbn)
+    → length bytes ≡ sources p.oti * symbol_of p.oti → source ≡ take (size_at p.oti p.sbn * symbol_of p.oti) (rows_from p.oti bytes p.sbn)
     → Some at ≡ position_from (λ q. q == p.esi) 0 (places_of p.oti places p.sbn)
-    → d ≡ position_from differ 0 (zip (symbol_row (size_at p.oti p.sbn) p.oti.symbol source p.esi) (zero_filled p.oti.symbol p.symbol))
+    → d ≡ position_from differ 0 (zip (symbol_row (size_at p.oti p.sbn) (symbol_of p.oti) source p.esi) (zero_filled (symbol_of p.oti) p.symbol))
     → finding_of d ≡ finding_at (ready_object p.oti places bytes) p
 found_joined p places bytes source at d is placed joined source_is found d_is =
     let o = p.oti in
     let b = p.sbn in
-    let ends = part_ends o b o.symbol (length bytes) is.sound is.block joined in
+    let ends = part_ends o b (symbol_of o) (length bytes) is.sound is.block joined in
     let many : length (places_of o places b) ≡ size_at o b = omega (
       arith,
       length-take (size_at o b) (drop (start_at o b) places),
@@ -75,9 +75,9 @@ found_joined p places bytes source at d is placed joined source_is found d_is =
       block_end o is.sound b is.block,
     ) in
     let here = ready_block o places bytes b is.block in
-    found_solved (size_at o b) (encoding_at o b) o.symbol p.esi at p.symbol (places_of o places b) source d many found (symbol_within p is) d_is
+    found_solved (size_at o b) (encoding_at o b) (symbol_of o) p.esi at p.symbol (places_of o places b) source d many found (symbol_within p is) d_is
     ∙ ap (λ (h : BlockHeld). finding_in h p.esi p.symbol)
-    (joined_is_seen o places bytes source b many (omega (arith, length-drop (start_at o b * o.symbol) bytes, ends)) source_is ∙ sym here)
+    (joined_is_seen o places bytes source b many (omega (arith, length-drop (start_at o b * symbol_of o) bytes, ends)) source_is ∙ sym here)
     ∙ found_in_object (ready_object o places bytes) p refl (subst (IsShaped o b) (sym here) (joined_shaped o places bytes b))
 
 pub not_joined : (p : SymbolPacket) (places bytes : List ℕ) → IsPacket p → is_done (ready_object p.oti places bytes) ≡ true

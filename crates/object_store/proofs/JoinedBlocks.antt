@@ -11,7 +11,7 @@ use Rattle.std.proofs.lemmas.List.{take-append-le, drop-append-le, take_all, dro
 use Rattle.std.proofs.lemmas.Nat.{mul-le}
 use Rattle.std.proofs.lemmas.Bool.{cases_lt}
 use Rattle.std.proofs.lemmas.Bool.Decides.{nat_tests}
-use Rattle.oti_blocks.specs.Partition.{ObjectInformation, IsSound, sources, blocks, size_at, start_at, encoding_at}
+use Rattle.oti_blocks.specs.Partition.{ObjectInformation, IsSound, sources, blocks, size_at, start_at, encoding_at, symbol_of}
 use Rattle.oti_blocks.proofs.Public.{start-next, block_end, ends_before}
 use Rattle.wire_bytes.specs.Below.{list_below}
 use Rattle.wire_bytes.proofs.Public.{passes_below}
@@ -74,11 +74,11 @@ ready_block o places bytes b less = ap (λ r. unwrap_or r (unopened o b)) (joine
 
 -- a block among those of longer lists
 joined_front : (o : ObjectInformation) (b : ℕ) (places held bytes source : List ℕ) → start_at o b + size_at o b ≤ length places
-    → (start_at o b + size_at o b) * o.symbol ≤ length bytes → joined_block o (places ++ held) (bytes ++ source) b ≡ joined_block o places bytes b
+    → (start_at o b + size_at o b) * symbol_of o ≤ length bytes → joined_block o (places ++ held) (bytes ++ source) b ≡ joined_block o places bytes b
 unfolding joined_block
 joined_front o b places held bytes source placed joined =
     let k = size_at o b in
-    let e = o.symbol in
+    let e = symbol_of o in
     let s = start_at o b in
     let parts : (s + k) * e ≡ s * e + k * e = omega arith in
     let place_is : places_of o (places ++ held) b ≡ places_of o places b = ap (take k) (drop-append-le s places held (omega (arith, placed)))
@@ -91,16 +91,16 @@ joined_front o b places held bytes source placed joined =
     ∙ ap (λ ps. seen o b (rows_map e ps (symbols_at k e (rows_from o bytes b) ps))) place_is
   where
     seen : (o : ObjectInformation) (b : ℕ) → FinMap nat_cmp (List ℕ) → BlockHeld
-    seen o b rows = record { k = size_at o b; n = encoding_at o b; size = o.symbol; rows = rows }
+    seen o b rows = record { k = size_at o b; n = encoding_at o b; size = symbol_of o; rows = rows }
 
 -- the next block
 joined_end : (o : ObjectInformation) (n : ℕ) (h : BlockHeld) (places held bytes source : List ℕ) → length places ≡ start_at o n
-    → length bytes ≡ start_at o n * o.symbol → IsShaped o n h → IsSolved h held source → h ≡ joined_block o (places ++ held) (bytes ++ source) n
+    → length bytes ≡ start_at o n * symbol_of o → IsShaped o n h → IsSolved h held source → h ≡ joined_block o (places ++ held) (bytes ++ source) n
 unfolding joined_block
 joined_end o n h places held bytes source placed joined shaped is =
     let many : length held ≤ size_at o n = omega (arith, is.many, shaped.k) in
     let place_is : held ≡ places_of o (places ++ held) n = sym (ap (take (size_at o n)) (drop_at places held (start_at o n) placed) ∙ take_all (size_at o n) held many) in
-    let row_is : source ≡ rows_from o (bytes ++ source) n = sym (drop_at bytes source (start_at o n * o.symbol) joined) in
+    let row_is : source ≡ rows_from o (bytes ++ source) n = sym (drop_at bytes source (start_at o n * symbol_of o) joined) in
     let rows_are = is.rows ∙ (λ i. rows_map (shaped.size i) (place_is i) (symbols_at (shaped.k i) (shaped.size i) (row_is i) (place_is i))) in
     λ i. record { k = shaped.k i; n = shaped.n i; size = shaped.size i; rows = rows_are i }
 
@@ -114,7 +114,7 @@ joined_next o n h places held bytes source sound less are rows here shaped is = 
     | false ↦ λ e.
         let before : b < n = earlier b n lt e in
         let ends = ends_before o.oti sound n b before (omega arith) in
-        let inside = mul-le (start_at o.oti b + size_at o.oti b) o.oti.symbol (start_at o.oti n) o.oti.symbol ends (omega arith) in
+        let inside = mul-le (start_at o.oti b + size_at o.oti b) (symbol_of o.oti) (start_at o.oti n) (symbol_of o.oti) ends (omega arith) in
         are.same b before ∙ sym (joined_front o.oti b places held bytes source (omega (arith, ends, are.many)) (omega (arith, inside, rows.long)))
   ] refl;
 } where

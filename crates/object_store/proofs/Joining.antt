@@ -6,7 +6,7 @@ use Rattle.std.specs.FinMap.{get}
 use Rattle.std.proofs.lemmas.List.{take-append-le, drop-append-le, drop_at, length-drop, length-append}
 use Rattle.std.proofs.lemmas.Nat.{mul-le}
 use Rattle.std.proofs.lemmas.Bool.Decides.{nat_tests}
-use Rattle.oti_blocks.specs.Partition.{IsSound, sources, blocks, size_at, start_at}
+use Rattle.oti_blocks.specs.Partition.{IsSound, sources, blocks, size_at, start_at, length_of, symbol_of}
 use Rattle.oti_blocks.proofs.Public.{size_bounds, start-next, start_last, block_end, ends_before, sources_bounds}
 use Rattle.wire_bytes.proofs.Public.{passes_below}
 use Rattle.rs_code.specs.SourceRows.{cut, IsSymbolRow}
@@ -30,7 +30,7 @@ pub rows_next : (o : ObjectHeld) (n : ℕ) (h : BlockHeld) (bytes source : List 
     → n < blocks o.oti → AreRowsBelow o n bytes → block_at o n ≡ h → IsShaped o.oti n h → IsSource h source
     → AreRowsBelow o (n + 1) (bytes ++ source)
 rows_next o n h bytes source sound less are here shaped is =
-    let e = o.oti.symbol in
+    let e = symbol_of o.oti in
     let next = start-next o.oti sound n less in
     let width : length source ≡ size_at o.oti n * e = is.long ∙ ap (λ (k : ℕ). k * h.size) shaped.k ∙ ap (λ (s : ℕ). size_at o.oti n * s) shaped.size in
     let split : (start_at o.oti n + size_at o.oti n) * e ≡ start_at o.oti n * e + size_at o.oti n * e = omega arith in record {
@@ -64,9 +64,9 @@ rows_next o n h bytes source sound less are here shaped is =
 -- the room for one block more
 pub room_for_next : (o : ObjectHeld) (n : ℕ) (h : BlockHeld) (bytes source : List ℕ)
     → IsSound o.oti → n < blocks o.oti → AreRowsBelow o n bytes → IsShaped o.oti n h → IsSource h source
-    → length bytes + length source ≤ sources o.oti * o.oti.symbol
+    → length bytes + length source ≤ sources o.oti * symbol_of o.oti
 room_for_next o n h bytes source sound less are shaped is =
-    let e = o.oti.symbol in
+    let e = symbol_of o.oti in
     let width : length source ≡ size_at o.oti n * e = is.long ∙ ap (λ (k : ℕ). k * h.size) shaped.k ∙ ap (λ (s : ℕ). size_at o.oti n * s) shaped.size in
     let inside = mul-le (start_at o.oti n + size_at o.oti n) e (sources o.oti) e (block_end o.oti sound n less) (omega arith) in
     let parts : (start_at o.oti n + size_at o.oti n) * e ≡ start_at o.oti n * e + size_at o.oti n * e = omega arith in
@@ -91,5 +91,5 @@ open_when_done o b sound done less closed =
     no_fewer k some f = grind (arith, nat_tests)
 
 -- the object's length is within its rows
-pub rows_cover : (o : ObjectHeld) (bytes : List ℕ) → IsSound o.oti → AreRowsBelow o (blocks o.oti) bytes → o.oti.length ≤ length bytes
-rows_cover o bytes sound are = omega (arith, are.long, ap (λ (s : ℕ). s * o.oti.symbol) (start_last o.oti sound), (sources_bounds o.oti sound).0)
+pub rows_cover : (o : ObjectHeld) (bytes : List ℕ) → IsSound o.oti → AreRowsBelow o (blocks o.oti) bytes → length_of o.oti ≤ length bytes
+rows_cover o bytes sound are = omega (arith, are.long, ap (λ (s : ℕ). s * symbol_of o.oti) (start_last o.oti sound), (sources_bounds o.oti sound).0)

@@ -5,7 +5,7 @@ use Rattle.std.specs.Str.{bytes_eq}
 use Rattle.std.specs.Ordering.{nat_cmp}
 use Rattle.std.specs.FinMap.{FinMap, get, get-empty}
 use Rattle.std.proofs.lemmas.Bool.Decides.{nat_tests}
-use Rattle.oti_blocks.specs.Partition.{ObjectInformation, size_at}
+use Rattle.oti_blocks.specs.Partition.{ObjectInformation, size_at, symbol_of}
 use Rattle.oti_blocks.proofs.Public.{size_bounds}
 use Rattle.alc_packet.specs.Packet.{SymbolPacket, IsPacket, full}
 use Rattle.object_store.specs.declared.judgement.Judgement.TheVariants.{Joins, Stays}
@@ -35,7 +35,7 @@ judged_by_budget budget count charge new is = elim (nat_lt budget (count + charg
 
 -- on a row or a vacant place
 judged_on_row : (budget : ℕ) (held : Held) (p : SymbolPacket) (opening : ℕ) (r : Option (List ℕ))
-    → charge held p ≡ (opening + (if symbols_held held p.toi p.oti p.sbn == 0 then 64 else 0)) + p.oti.symbol
+    → charge held p ≡ (opening + (if symbols_held held p.toi p.oti p.sbn == 0 then 64 else 0)) + symbol_of p.oti
     → IsJudged (verdict_on_row budget held p r) (charge held p)
     (by_finding budget (byte_count held) opening p (finding_on (size_at p.oti p.sbn) (symbols_held held p.toi p.oti p.sbn) (full p) r))
 judged_on_row budget held p opening (Some row) adds = either (bytes_eq row (full p)) (first_difference row (full p))
@@ -66,8 +66,8 @@ judged_unheld budget m p is closed =
     let none : symbols_held held p.toi p.oti p.sbn ≡ 0 = symbols_are m p.toi p.oti (new_object p.oti) here p.sbn ∙ none_in (new_object p.oti) p.sbn shut in
     let vacant : row_at held (place_of p) ≡ None = held_here m p.toi p.oti (new_object p.oti) here p.sbn p.esi
     ∙ ap (λ (h : BlockHeld). get h.rows p.esi) shut ∙ get-empty nat_cmp p.esi in
-    let adds : charge held p ≡ (256 + (if symbols_held held p.toi p.oti p.sbn == 0 then 64 else 0)) + p.oti.symbol =
-    ap (λ (r : Option ObjectInformation). ((if is_some r then 0 else 256) + (if symbols_held held p.toi p.oti p.sbn == 0 then 64 else 0)) + p.oti.symbol) information in
+    let adds : charge held p ≡ (256 + (if symbols_held held p.toi p.oti p.sbn == 0 then 64 else 0)) + symbol_of p.oti =
+    ap (λ (r : Option ObjectInformation). ((if is_some r then 0 else 256) + (if symbols_held held p.toi p.oti p.sbn == 0 then 64 else 0)) + symbol_of p.oti) information in
     let some = (size_bounds p.oti is.sound p.sbn is.block).0 in
     subst (λ (k : Kept). IsJudged k (charge held p) (by_finding budget (byte_count held) 256 p (Wanting 0))) (sym (ap (verdict_on_object budget held p) information))
     (subst (λ (r : Option (List ℕ)). IsJudged (verdict_on_row budget held p r) (charge held p) (by_finding budget (byte_count held) 256 p (Wanting 0))) (sym vacant)
@@ -85,8 +85,8 @@ judged_held budget m p o open_o =
     let held = held_of m in
     let information : get held.objects p.toi ≡ Some o.oti = get_information m p.toi ∙ ap (option_map (λ (o : ObjectHeld). o.oti)) open_o in
     let here : unwrap_or (get m p.toi) (new_object p.oti) ≡ o = ap (λ (r : Option ObjectHeld). unwrap_or r (new_object p.oti)) open_o in
-    let adds : charge held p ≡ (0 + (if symbols_held held p.toi p.oti p.sbn == 0 then 64 else 0)) + p.oti.symbol =
-    ap (λ (r : Option ObjectInformation). ((if is_some r then 0 else 256) + (if symbols_held held p.toi p.oti p.sbn == 0 then 64 else 0)) + p.oti.symbol) information in
+    let adds : charge held p ≡ (0 + (if symbols_held held p.toi p.oti p.sbn == 0 then 64 else 0)) + symbol_of p.oti =
+    ap (λ (r : Option ObjectInformation). ((if is_some r then 0 else 256) + (if symbols_held held p.toi p.oti p.sbn == 0 then 64 else 0)) + symbol_of p.oti) information in
     subst (λ (k : Kept). IsJudged k (charge held p) (judged_in budget (byte_count held) o p)) (sym (ap (verdict_on_object budget held p) information))
     (elim (same_information o.oti p.oti) as (λ x. same_information o.oti p.oti ≡ x
     → IsJudged (if x then verdict_on_row budget held p (row_at held (place_of p)) else OtiDiffers o.oti) (charge held p)

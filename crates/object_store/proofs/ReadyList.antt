@@ -5,7 +5,7 @@ use Rattle.std.specs.Prelude.{is_some, ◌==◌, nat_le, if◌then◌else◌}
 use Rattle.std.specs.FinMap.{get}
 use Rattle.std.proofs.lemmas.Bool.{and_parts}
 use Rattle.std.proofs.lemmas.Bool.Decides.{nat_tests}
-use Rattle.oti_blocks.specs.Partition.{ObjectInformation, blocks, size_at}
+use Rattle.oti_blocks.specs.Partition.{ObjectInformation, blocks, size_at, length_of}
 use Rattle.alc_packet.specs.Packet.{SymbolPacket, IsPacket}
 use Rattle.wire_bytes.specs.Below.{join_below}
 use Rattle.wire_bytes.proofs.Public.{all_same, not_all_below}
@@ -23,7 +23,7 @@ is_whole held t (Some o) = is_ready held t o
 
 whole_there : (held : Held) (t : ℕ) (r : Option ObjectInformation) → is_some (bytes_when_ready held t r) ≡ is_whole held t r
 whole_there held t None = refl
-whole_there held t (Some o) = either (is_ready held t o) (take o.length (join_below (blocks o) (λ b. block_bytes held t o b)))
+whole_there held t (Some o) = either (is_ready held t o) (take (length_of o) (join_below (blocks o) (λ b. block_bytes held t o b)))
   where
     either : (x : Bool) (bytes : List ℕ) → is_some (if x then Some bytes else None) ≡ x
     either true bytes = refl

@@ -7,7 +7,7 @@ use Rattle.std.specs.FinMap.{get, insert, get-insert}
 use Rattle.std.specs.BTreeMap.{BTreeMap, Updates}
 use Rattle.std.specs.BTreeMap as tree
 use Rattle.std.proofs.lemmas.Bool.Decides.{nat_tests}
-use Rattle.oti_blocks.specs.Partition.{ObjectInformation, sources, blocks, size_at, encoding_at}
+use Rattle.oti_blocks.specs.Partition.{ObjectInformation, sources, blocks, size_at, encoding_at, symbol_of}
 use Rattle.alc_packet.specs.Packet.{SymbolPacket, IsPacket, full}
 use Rattle.wire_bytes.specs.Below.{count_below}
 use Rattle.wire_bytes.specs.Bytes.{zero_filled}
@@ -42,7 +42,7 @@ pub step_of : (oti : ObjectInformation) (parts more : BTreeMap ℕ BlockHeld) (p
 step_of oti parts more p joins shaped updates =
     let o = object_of oti parts in
     let size : zero_filled (block_at o p.sbn).size p.symbol ≡ full p = ap (λ (e : ℕ). zero_filled e p.symbol)
-    ((shaped p.sbn).size ∙ ap (λ (u : ObjectInformation). u.symbol) joins.same) ∙ filled_is_full p in
+    ((shaped p.sbn).size ∙ ap (λ (u : ObjectInformation). symbol_of u) joins.same) ∙ filled_is_full p in
     let with_is : part_with parts p ≡ with_row (block_at o p.sbn) p.esi (full p) =
     ap (λ (h : BlockHeld). with_symbol h p.esi p.symbol) (part_is oti parts p joins.same) ∙ ap (with_row (block_at o p.sbn) p.esi) size in
     let here : part_with parts p ≡ block_at (with_packet o p) p.sbn = with_is ∙ sym (block_here o p) in

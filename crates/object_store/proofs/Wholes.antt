@@ -3,7 +3,7 @@ use Rattle.std.proofs.Common.{◌≡◌, ℕ, false, List, refl, sym, ap, ◌∙
 use Rattle.std.specs.Prelude.{unwrap_or, IfNone, IfSome}
 use Rattle.std.specs.Ordering.{nat_cmp}
 use Rattle.std.specs.FinMap.{FinMap, get}
-use Rattle.oti_blocks.specs.Partition.{IsSound, blocks}
+use Rattle.oti_blocks.specs.Partition.{IsSound, blocks, symbol_of}
 use Rattle.oti_blocks.proofs.Public.{start_last}
 use Rattle.held_packets.specs.HeldPair.{IsHeldPair}
 use Rattle.held_packets.specs.Whole.{whole, bytes_when_ready}
@@ -44,7 +44,7 @@ module _ (m : FinMap nat_cmp ObjectHeld) (t : ℕ) where
   -- a ready one: its joined rows are source rows of the held pair
   source_rows : (o : ObjectHeld) (rows : List ℕ) → get m t ≡ Some o → IsSound o.oti → AreRowsBelow o (blocks o.oti) rows → AreSourceRows (held_of m) t o.oti rows
   source_rows o rows found sound are = record {
-    long = are.long ∙ ap (λ (n : ℕ). n * o.oti.symbol) (start_last o.oti sound);
+    long = are.long ∙ ap (λ (n : ℕ). n * symbol_of o.oti) (start_last o.oti sound);
     symbols = λ b j row less held. are.symbols b j row less (sym (held_here m t o.oti o (object_is o found) b j) ∙ held);
   }
 

@@ -9,7 +9,7 @@ use Rattle.std.specs.Map.{lookup}
 use Rattle.std.specs.BTreeMap.{BTreeMap, is_at}
 use Rattle.std.specs.BTreeMap as tree
 use Rattle.std.proofs.lemmas.Bool.Decides.{nat_tests}
-use Rattle.oti_blocks.specs.Partition.{ObjectInformation, blocks, size_at, encoding_at}
+use Rattle.oti_blocks.specs.Partition.{ObjectInformation, blocks, size_at, encoding_at, symbol_of}
 use Rattle.oti_blocks.proofs.Public.{size_bounds, last_length_bounds}
 use Rattle.alc_packet.specs.Packet.{SymbolPacket, IsPacket, full}
 use Rattle.wire_bytes.specs.Below.{count_below, all_below}
@@ -62,13 +62,13 @@ none_in o b is = ap (λ (h : BlockHeld). count_below (encoding_at o.oti b) (has_
 pub held_is_symbols : (o : ObjectHeld) (b : ℕ) → IsShaped o.oti b (block_at o b) → held_in (block_at o b) ≡ symbols_in o b
 held_is_symbols o b shaped = ap (λ (n : ℕ). count_below n (has_row (block_at o b))) shaped.n
 
-pub symbol_within : (p : SymbolPacket) → IsPacket p → length p.symbol ≤ p.oti.symbol
+pub symbol_within : (p : SymbolPacket) → IsPacket p → length p.symbol ≤ symbol_of p.oti
 symbol_within p is = elim is.symbol [
   | inl whole ↦ omega (arith, whole.whole)
   | inr cut ↦ omega (arith, cut.cut, (last_length_bounds p.oti is.sound).2)
 ]
 
-pub filled_is_full : (p : SymbolPacket) → zero_filled p.oti.symbol p.symbol ≡ full p
+pub filled_is_full : (p : SymbolPacket) → zero_filled (symbol_of p.oti) p.symbol ≡ full p
 unfolding zero_filled full
 filled_is_full p = refl
 
@@ -78,7 +78,7 @@ may_join o p is joins shaped = record {
   place = omega (arith, shaped.n, is.place, ap (λ (u : ObjectInformation). encoding_at u p.sbn) joins.same);
   vacant = joins.vacant;
   wanting = omega (arith, shaped.k, joins.wanting, held_is_symbols o p.sbn shaped);
-  symbol = omega (arith, shaped.size, symbol_within p is, ap (λ (u : ObjectInformation). u.symbol) joins.same);
+  symbol = omega (arith, shaped.size, symbol_within p is, ap (λ (u : ObjectInformation). symbol_of u) joins.same);
 }
 
 -- what a packet meets in an open block, and in one that isn't
@@ -88,7 +88,7 @@ found_in_object o p same shaped =
     ap (λ (k : ℕ). finding_on k (held_in (block_at o p.sbn)) (zero_filled (block_at o p.sbn).size p.symbol) (object_row o p.sbn p.esi)) shaped.k
     ∙ ap (λ (m : ℕ). finding_on (size_at o.oti p.sbn) m (zero_filled (block_at o p.sbn).size p.symbol) (object_row o p.sbn p.esi)) (held_is_symbols o p.sbn shaped)
     ∙ ap (λ (r : List ℕ). finding_on (size_at o.oti p.sbn) (symbols_in o p.sbn) r (object_row o p.sbn p.esi))
-    (ap (λ (e : ℕ). zero_filled e p.symbol) (shaped.size ∙ ap (λ (u : ObjectInformation). u.symbol) same) ∙ filled_is_full p)
+    (ap (λ (e : ℕ). zero_filled e p.symbol) (shaped.size ∙ ap (λ (u : ObjectInformation). symbol_of u) same) ∙ filled_is_full p)
 
 pub nothing_in_object : (o : ObjectHeld) (p : SymbolPacket) → IsPacket p → o.oti ≡ p.oti → block_at o p.sbn ≡ unopened o.oti p.sbn → Wanting 0 ≡ finding_at o p
 nothing_in_object o p is same closed =

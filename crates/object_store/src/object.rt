@@ -1,6 +1,6 @@
 //! An object of which symbols are held.
 ghost use Rattle.std.specs.Prelude.{◌≡◌, ◌≤◌, ◌+◌, ◌-◌, ◌*◌, ◌^◌, [], false, true, min, nat_lt, length, if◌then◌else◌, vec_capacity, IfOk, IfNone, IfSome, OnOk, OnErr};
-ghost use Rattle.oti_blocks.specs.Partition.{IsSound, blocks, sources, size_at};
+ghost use Rattle.oti_blocks.specs.Partition.{IsSound, blocks, sources, size_at, length_of, symbol_of};
 ghost use Rattle.alc_packet.specs.Packet.{IsPacket};
 ghost use Rattle.object_store.specs.Inner.ObjectHeld.{new_object, symbols_in, is_block_done, is_done, with_packet, steps_at, finding_at, Joins, AreRowsBelow, IsWholeOf};
 ghost use Rattle.object_store.specs.Inner.ObjectParts.{object_of, ready_object, AreShaped, AreWithin};
@@ -167,11 +167,11 @@ fn size_of(oti: &Oti, sbn: u32) -> u8
 
 /// The object's length.
 fn length(oti: &Oti) -> usize
-    ensures value { result ≡ oti.now.length }
-    ensures within { result ≤ sources oti.now * oti.now.symbol }
+    ensures value { result ≡ length_of oti.now }
+    ensures within { result ≤ sources oti.now * symbol_of oti.now }
     ensures sound { IsSound oti.now }
 {
-    oti.length as usize
+    oti.length() as usize
 }
 
 /// One fewer, if the block is ready.
@@ -196,7 +196,7 @@ fn join_when(
     requires none_placed { object ≡ true → places.old.items ≡ [] }
     requires none_joined { object ≡ true → bytes.old.items ≡ [] }
     requires room_placed { object ≡ true → sources oti.now ≤ vec_capacity places.old }
-    requires room_joined { object ≡ true → sources oti.now * oti.now.symbol ≤ vec_capacity bytes.old }
+    requires room_joined { object ≡ true → sources oti.now * symbol_of oti.now ≤ vec_capacity bytes.old }
     ensures same_parts { object ≡ false → parts.new.entries ≡ parts.old.entries }
     ensures same_places { object ≡ false → places.new.items ≡ places.old.items }
     ensures same_bytes { object ≡ false → bytes.new.items ≡ bytes.old.items }

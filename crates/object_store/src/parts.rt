@@ -80,7 +80,7 @@ fn open<L>(
     let Entry::Vacant(place) = parts.entry(packet.sbn)? else {
         return Ok(false);
     };
-    let mut block = Block::new(alloc, k, n, oti.symbol);
+    let mut block = Block::new(alloc, k, n, oti.symbol());
     block.add(packet.esi, packet.symbol, steps)?;
     let full = block.is_full();
     place.insert(block);

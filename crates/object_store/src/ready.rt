@@ -1,6 +1,6 @@
 //! The blocks of an object that is ready: the places of each, one block after another, and so their source rows.
 ghost use Rattle.std.specs.Prelude.{◌≡◌, ◌≤◌, ◌<◌, ◌+◌, ◌*◌, ◌++◌, [], true, length, take, drop, vec_capacity, OnOk};
-ghost use Rattle.oti_blocks.specs.Partition.{IsSound, blocks, sources, size_at, start_at};
+ghost use Rattle.oti_blocks.specs.Partition.{IsSound, blocks, sources, size_at, start_at, symbol_of};
 ghost use Rattle.object_store.specs.Inner.ObjectHeld.{is_done, finding_at, AreRowsBelow};
 ghost use Rattle.object_store.specs.Inner.ObjectParts.{object_of, ready_object, AreShaped, AreJoinedBelow};
 
@@ -22,7 +22,7 @@ pub fn reserve_when(
     ensures places { places.new.items ≡ places.old.items }
     ensures bytes { bytes.new.items ≡ bytes.old.items }
     ensures room_placed { OnOk result (object ≡ true → places.old.items ≡ [] → sources oti.now ≤ vec_capacity places.new) }
-    ensures room_joined { OnOk result (object ≡ true → bytes.old.items ≡ [] → sources oti.now * oti.now.symbol ≤ vec_capacity bytes.new) }
+    ensures room_joined { OnOk result (object ≡ true → bytes.old.items ≡ [] → sources oti.now * symbol_of oti.now ≤ vec_capacity bytes.new) }
 {
     if object {
         places.reserve(oti.sources() as usize)?;
@@ -33,9 +33,9 @@ pub fn reserve_when(
 
 /// The bytes of all source rows, zero fill counted.
 fn row_bytes(oti: &Oti) -> usize
-    ensures { result ≡ sources oti.now * oti.now.symbol }
+    ensures { result ≡ sources oti.now * symbol_of oti.now }
 {
-    oti.sources() as usize * usize::from(oti.symbol)
+    oti.sources() as usize * usize::from(oti.symbol())
 }
 
 /// Joins all blocks, each of which has k symbols, in the room that was taken for them.
@@ -45,7 +45,7 @@ pub fn join(parts: &BTreeMap<u32, Block>, oti: &Oti, places: &mut Vec<u8>, bytes
     requires none_placed { places.old.items ≡ [] }
     requires none_joined { bytes.old.items ≡ [] }
     requires room_placed { sources oti.now ≤ vec_capacity places.old }
-    requires room_joined { sources oti.now * oti.now.symbol ≤ vec_capacity bytes.old }
+    requires room_joined { sources oti.now * symbol_of oti.now ≤ vec_capacity bytes.old }
     ensures joined { AreJoinedBelow (object_of oti.now parts.now) (blocks oti.now) places.new.items bytes.new.items }
     ensures rows { AreRowsBelow (object_of oti.now parts.now) (blocks oti.now) bytes.new.items }
     ensures sound { IsSound oti.now }
@@ -77,15 +77,15 @@ fn append_within(bytes: &mut Vec<u8>, more: &[u8])
 pub fn find_joined(packet: &Packet<'_>, places: &[u8], bytes: &[u8]) -> Finding
     requires done { is_done (ready_object packet.now.oti places.now bytes.now) ≡ true }
     requires places { length places.now ≡ sources packet.now.oti }
-    requires bytes { length bytes.now ≡ sources packet.now.oti * packet.now.oti.symbol }
+    requires bytes { length bytes.now ≡ sources packet.now.oti * symbol_of packet.now.oti }
     ensures { result ≡ finding_at (ready_object packet.now.oti places.now bytes.now) packet.now }
 {
     let oti = &packet.oti;
     match position(of_block(oti, packet.sbn, 1, places), packet.esi) {
         Some(_) => {
-            let source = of_block(oti, packet.sbn, usize::from(oti.symbol), bytes);
+            let source = of_block(oti, packet.sbn, usize::from(oti.symbol()), bytes);
             let k = oti.block_k(packet.sbn);
-            compared(symbol_difference(k, oti.symbol, source, packet.esi, packet.symbol))
+            compared(symbol_difference(k, oti.symbol(), source, packet.esi, packet.symbol))
         }
         None => Finding::Full,
     }

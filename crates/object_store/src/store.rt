@@ -218,7 +218,7 @@ fn by_finding(
             by_budget(
                 budget,
                 count,
-                opening + block + u64::from(packet.oti.symbol),
+                opening + block + u64::from(packet.oti.symbol()),
             )
         }
     }

@@ -1,3 +1,4 @@
+pub mod Bounds
 pub mod Quotients
 pub mod Sizes
 pub mod Soundness

@@ -1,10 +1,11 @@
 -- T, N and the sizes of blocks as numbers.
 use Rattle.std.proofs.Common.{◌≡◌, ℕ, zero, suc, ◌+◌, ◌-◌, ◌*◌, ◌/◌, ◌%◌, ◌^◌, ◌<◌, ◌≤◌, min, refl, ap, ◌∙◌, arith, inl, inr}
 use Rattle.std.specs.Int.{div_ceil}
-use Rattle.std.proofs.Math.Nat.{mod-lt, lt_of_mul-lt-mul_right, le-mul_of_pos_right, mul-le-mul_left, mul-le-mul_right, le-div_iff_mul-le, div-mul-le_self, div-le_of_le-mul}
+use Rattle.std.proofs.Math.Nat.{mod-lt, lt_of_mul-lt-mul_right, le-mul_of_pos_right, mul-le-mul_right}
 use Rattle.std.proofs.lemmas.Bool.{cases_lt}
-use Rattle.std.proofs.lemmas.Nat.{le-div, div-add-mod'}
-use Rattle.oti_blocks.specs.Partition.{ObjectInformation, IsSound, sources, blocks, large, small, large_count, encoding_count, last_length}
+use Rattle.std.proofs.lemmas.Nat.{div-add-mod'}
+use Rattle.oti_blocks.specs.Partition.{ObjectInformation, IsSound, length_of, symbol_of, max_block_of, sources, blocks, large, small, large_count, last_length}
+use Rattle.oti_blocks.proofs.Bounds.{bounds}
 
 -- ---- quotients
 
@@ -62,29 +63,29 @@ back_one (suc n) y some = let e : suc n - 1 ≡ n = omega arith in rw e (omega a
 
 -- ---- the object's numbers
 
-pub sources_bounds : (o : ObjectInformation) → IsSound o → (o.length ≤ sources o * o.symbol) × (sources o * o.symbol < o.length + o.symbol)
+pub sources_bounds : (o : ObjectInformation) → IsSound o → ((length_of o) ≤ sources o * (symbol_of o)) × (sources o * (symbol_of o) < (length_of o) + (symbol_of o))
 unfolding sources
-sources_bounds o sound = div_ceil_bounds o.length o.symbol sound.some_symbol
+sources_bounds o sound = div_ceil_bounds (length_of o) (symbol_of o) (bounds o sound).some_symbol
 
 pub sources_pos : (o : ObjectInformation) → IsSound o → 1 ≤ sources o
 unfolding sources
-sources_pos o sound = div_ceil_pos o.length o.symbol sound.some_symbol (omega (arith, sound.long))
+sources_pos o sound = div_ceil_pos (length_of o) (symbol_of o) (bounds o sound).some_symbol (omega (arith, (bounds o sound).long))
 
 pub sources_le : (o : ObjectInformation) → IsSound o → sources o < 2 ^ 48
 unfolding sources
-sources_le o sound = omega (arith, div_ceil_le_self o.length o.symbol sound.some_symbol, sound.length_fits)
+sources_le o sound = omega (arith, div_ceil_le_self (length_of o) (symbol_of o) (bounds o sound).some_symbol, (bounds o sound).length_fits)
 
 pub blocks_pos : (o : ObjectInformation) → IsSound o → 1 ≤ blocks o
 unfolding blocks
-blocks_pos o sound = div_ceil_pos (sources o) o.max_block sound.some_block (sources_pos o sound)
+blocks_pos o sound = div_ceil_pos (sources o) (max_block_of o) (bounds o sound).some_block (sources_pos o sound)
 
 pub blocks_le_sources : (o : ObjectInformation) → IsSound o → blocks o ≤ sources o
 unfolding blocks
-blocks_le_sources o sound = div_ceil_le_self (sources o) o.max_block sound.some_block
+blocks_le_sources o sound = div_ceil_le_self (sources o) (max_block_of o) (bounds o sound).some_block
 
-pub sources_within : (o : ObjectInformation) → IsSound o → sources o ≤ o.max_block * blocks o
+pub sources_within : (o : ObjectInformation) → IsSound o → sources o ≤ (max_block_of o) * blocks o
 unfolding blocks
-sources_within o sound = omega (arith, div_ceil_bounds (sources o) o.max_block sound.some_block)
+sources_within o sound = omega (arith, div_ceil_bounds (sources o) (max_block_of o) (bounds o sound).some_block)
 
 -- T is N smaller blocks and one source symbol more for each larger one
 pub sources_split : (o : ObjectInformation) → IsSound o → (small o * blocks o + large_count o ≡ sources o)
@@ -112,32 +113,15 @@ small_pos o sound =
 pub small_le_large : (o : ObjectInformation) → IsSound o → small o ≤ large o
 small_le_large o sound = let parts = sources_split o sound in rw (parts.2) (omega arith)
 
-pub large_le : (o : ObjectInformation) → IsSound o → large o ≤ o.max_block
+pub large_le : (o : ObjectInformation) → IsSound o → large o ≤ (max_block_of o)
 unfolding large
-large_le o sound = div_ceil-le (sources o) (blocks o) o.max_block (blocks_pos o sound) (sources_within o sound)
+large_le o sound = div_ceil-le (sources o) (blocks o) (max_block_of o) (blocks_pos o sound) (sources_within o sound)
 
 -- the last source symbol has bytes of the object, and no more than a symbol has
-pub last_length_bounds : (o : ObjectInformation) → IsSound o → ((sources o - 1) * o.symbol ≤ o.length) × (1 ≤ last_length o) × (last_length o ≤ o.symbol)
+pub last_length_bounds : (o : ObjectInformation) → IsSound o → ((sources o - 1) * (symbol_of o) ≤ (length_of o)) × (1 ≤ last_length o) × (last_length o ≤ (symbol_of o))
 unfolding last_length
 last_length_bounds o sound =
     let some = sources_pos o sound in
     let b = sources_bounds o sound in
-    let whole : (sources o - 1) * o.symbol + o.symbol ≡ sources o * o.symbol = back_one (sources o) o.symbol some in
-    (omega (arith, b.1, whole), omega (arith, b.1, whole, sound.some_symbol), omega (arith, b.0, whole))
-
--- more source symbols give no fewer encoding symbols
-pub encoding_rises : (o : ObjectInformation) → IsSound o → (k l : ℕ) → k ≤ l → encoding_count o k ≤ encoding_count o l
-unfolding encoding_count
-encoding_rises o sound k l le =
-    let product : k * o.max_n / o.max_block * o.max_block ≤ l * o.max_n =
-    omega (arith, div-mul-le_self (k * o.max_n) o.max_block, mul-le-mul_right o.max_n le) in
-    le-div (k * o.max_n / o.max_block) (l * o.max_n) o.max_block (omega (arith, sound.some_block)) product
-
--- a block has no fewer encoding symbols than source symbols, and no more than are stated
-pub encoding_bounds : (o : ObjectInformation) → IsSound o → (k : ℕ) → k ≤ o.max_block → (k ≤ encoding_count o k) × (encoding_count o k ≤ o.max_n)
-unfolding encoding_count
-encoding_bounds o sound k le =
-    let low : k * o.max_block ≤ k * o.max_n = mul-le-mul_left k sound.block_within in
-    let high : k * o.max_n ≤ o.max_block * o.max_n = mul-le-mul_right o.max_n le in
-    let some : 0 < o.max_block = omega (arith, sound.some_block) in
-    ((le-div_iff_mul-le some).1 low, div-le_of_le-mul o.max_block high)
+    let whole : (sources o - 1) * (symbol_of o) + (symbol_of o) ≡ sources o * (symbol_of o) = back_one (sources o) (symbol_of o) some in
+    (omega (arith, b.1, whole), omega (arith, b.1, whole, (bounds o sound).some_symbol), omega (arith, b.0, whole))

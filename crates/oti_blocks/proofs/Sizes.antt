@@ -5,8 +5,9 @@ use Rattle.std.proofs.lemmas.List.{length-append, length-replicate, take-replica
 use Rattle.std.proofs.lemmas.List.Sums.{sum_by-append, sum_by_more, sum_by_more_le}
 use Rattle.std.proofs.lemmas.List.Folds.{sum_by-replicate}
 use Rattle.std.proofs.Math.Seq.{take-append-add, take-length}
-use Rattle.oti_blocks.specs.Partition.{ObjectInformation, IsSound, sources, blocks, large, small, large_count, sizes, size_at, start_at, encoding_at, HasSource}
-use Rattle.oti_blocks.proofs.Quotients.{sources_le, sources_split, small_pos, small_le_large, large_le, encoding_rises, encoding_bounds}
+use Rattle.oti_blocks.specs.Partition.{ObjectInformation, IsSound, sources, blocks, large, small, large_count, sizes, size_at, start_at, encoding_at, HasSource, max_block_of, most_encoding}
+use Rattle.oti_blocks.proofs.Quotients.{sources_le, sources_split, small_pos, small_le_large, large_le}
+use Rattle.oti_blocks.proofs.Bounds.{encoding_rises, encoding_bounds}
 
 -- I blocks of one source symbol more
 total_of : (i rest a : ℕ) → suc i * (a + 1) + rest * a ≡ a * (suc i + rest) + suc i
@@ -54,7 +55,7 @@ size_back o b ge lt =
     ∙ get_or-replicate (blocks o - large_count o) (b - large_count o) (small o) 0 (omega arith)
 
 -- each block has source symbols, and not too many
-pub size_bounds : (o : ObjectInformation) → IsSound o → (b : ℕ) → b < blocks o → (1 ≤ size_at o b) × (size_at o b ≤ o.max_block)
+pub size_bounds : (o : ObjectInformation) → IsSound o → (b : ℕ) → b < blocks o → (1 ≤ size_at o b) × (size_at o b ≤ (max_block_of o))
 size_bounds o sound b lt =
     let some = small_pos o sound in
     let order = small_le_large o sound in
@@ -65,7 +66,7 @@ size_bounds o sound b lt =
     ]
 
 -- and encoding symbols, at least as many and not too many
-pub encoding_at_bounds : (o : ObjectInformation) → IsSound o → (b : ℕ) → b < blocks o → (size_at o b ≤ encoding_at o b) × (encoding_at o b ≤ o.max_n)
+pub encoding_at_bounds : (o : ObjectInformation) → IsSound o → (b : ℕ) → b < blocks o → (size_at o b ≤ encoding_at o b) × (encoding_at o b ≤ most_encoding o)
 encoding_at_bounds o sound b lt = encoding_bounds o sound (size_at o b) (size_bounds o sound b lt).1
 
 -- a later block is no larger: the larger ones come first

@@ -1,7 +1,8 @@
 -- What is wrong with stated transmission information: the first of the faults that hold.
 use Rattle.std.specs.Prelude.{ℕ, ◌^◌, List, [], ◌∷◌, length, Option, Result, not, ◌==◌, nat_lt}
 use Rattle.wire_bytes.specs.FirstFault.{fault_when, first_fault, unless_fault}
-use Rattle.oti_blocks.specs.Partition.{ObjectInformation, blocks}
+use Rattle.oti_blocks.specs.Scheme.{ObjectInformation}
+use Rattle.oti_blocks.specs.Information.{block_count}
 use Rattle.oti_blocks.specs.Wire.{stated}
 use Rattle.oti_blocks.specs.declared.fault.OtiFault.{OtiFault}
 use Rattle.oti_blocks.specs.declared.fault.OtiFault.TheVariants.{FtiLength, ZeroSymbol, ZeroBlock, MaxN, ShortObject, TooManyBlocks}
@@ -13,7 +14,7 @@ information_faults o =
     ∷ fault_when (o.max_block == 0) ZeroBlock
     ∷ fault_when (nat_lt o.max_n o.max_block) MaxN
     ∷ fault_when (nat_lt o.length 8) ShortObject
-    ∷ fault_when (nat_lt (2 ^ 24) (blocks o)) TooManyBlocks
+    ∷ fault_when (nat_lt (2 ^ 24) (block_count o.length o.symbol o.max_block)) TooManyBlocks
     ∷ []
 
 -- the fault of stated values

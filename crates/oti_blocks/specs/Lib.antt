@@ -1,3 +1,5 @@
+pub mod Information
+pub mod Scheme
 pub mod Partition
 pub mod Sent
 pub mod Faults

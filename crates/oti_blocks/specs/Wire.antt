@@ -1,7 +1,7 @@
 -- The transmission information in a header, as EXT_FTI of FEC Encoding ID 5 (RFC 5510, section 4.2.2).
 use Rattle.std.specs.Prelude.{ℕ, List, [], ◌∷◌, ◌++◌, drop, slice_index}
 use Rattle.byteorder.specs.Endian.{big_number, big_bytes}
-use Rattle.oti_blocks.specs.Partition.{ObjectInformation}
+use Rattle.oti_blocks.specs.Scheme.{ObjectInformation}
 
 -- L in 48 bits, E in 16, B in 8, max_n in 8
 abbrev pub fti_content : ObjectInformation → List ℕ

@@ -1,7 +1,7 @@
 //! The source symbols and the blocks of an object (RFC 5052, section 9.1).
 
 ghost use Rattle.std.specs.Prelude.{◌≡◌, ◌^◌, ◌<◌, ◌≤◌, Some, slice_get};
-ghost use Rattle.oti_blocks.specs.Partition.{IsSound, sources, blocks, large, small, large_count, sizes, size_at, start_at, encoding_at, last_length};
+ghost use Rattle.oti_blocks.specs.Partition.{IsSound, sources, blocks, large, small, large_count, sizes, size_at, start_at, encoding_at, last_length, symbol_of, max_block_of, most_encoding};
 
 use crate::information::Oti;
 
@@ -14,7 +14,7 @@ impl Oti {
         ensures fits { result < 2 ^ 48 }
         ensures sound { IsSound self.now }
     {
-        self.length.div_ceil(u64::from(self.symbol))
+        self.length().div_ceil(u64::from(self.symbol()))
     }
 
     /// The blocks of the object, at least one.
@@ -25,7 +25,7 @@ impl Oti {
         ensures few { result ≤ 2 ^ 24 }
         ensures sound { IsSound self.now }
     {
-        self.sources().div_ceil(u64::from(self.max_block)) as u32
+        self.sources().div_ceil(u64::from(self.max_block())) as u32
     }
 
     /// The bytes of the last source symbol that are bytes of the object, from 1 to `symbol`.
@@ -33,10 +33,10 @@ impl Oti {
     pub fn last_length(&self) -> u16
         ensures value { result ≡ last_length self.now }
         ensures some { 1 ≤ result }
-        ensures most { result ≤ self.now.symbol }
+        ensures most { result ≤ symbol_of self.now }
     {
-        let whole = (self.sources() - 1) * u64::from(self.symbol);
-        (self.length - whole) as u16
+        let whole = (self.sources() - 1) * u64::from(self.symbol());
+        (self.length() - whole) as u16
     }
 
     /// The source symbols of block `b`.
@@ -45,7 +45,7 @@ impl Oti {
         ensures size { slice_get (sizes self.now) b ≡ Some result }
         ensures value { result ≡ size_at self.now b }
         ensures some { 1 ≤ result }
-        ensures most { result ≤ self.now.max_block }
+        ensures most { result ≤ max_block_of self.now }
     {
         if u64::from(b) < self.large_count() {
             self.large() as u8
@@ -59,10 +59,9 @@ impl Oti {
         requires { b < blocks self.now }
         ensures value { result ≡ encoding_at self.now b }
         ensures least { size_at self.now b ≤ result }
-        ensures most { result ≤ self.now.max_n }
+        ensures most { result ≤ most_encoding self.now }
     {
-        let k = u16::from(self.block_k(b));
-        (k * u16::from(self.max_n) / u16::from(self.max_block)) as u8
+        self.encoding_count(self.block_k(b))
     }
 
     /// The first source symbol of block `b`, counted from 0 over the whole object.

@@ -1,7 +1,8 @@
 //! Sound transmission information.
 
 ghost use Rattle.std.specs.Prelude.{◌≡◌, ℕ, ◌^◌, ◌<◌, ◌≤◌, ◌↔◌, IsOk};
-ghost use Rattle.oti_blocks.specs.Partition.{ObjectInformation, IsSound, blocks};
+ghost use Rattle.oti_blocks.specs.Information.{block_count};
+ghost use Rattle.oti_blocks.specs.Scheme.{ObjectInformation, IsSound};
 ghost use Rattle.oti_blocks.specs.Faults.{checked};
 
 use crate::fault::OtiFault;
@@ -12,18 +13,14 @@ use std::marker::Model;
 /// a symbol has at least one byte, and `1 <= max_block <= max_n`.
 #[derive(Clone, Copy, Debug, PartialEq, Eq)]
 pub struct Oti {
-    /// The object's length in bytes.
-    pub length: u64,
-    /// The length of an encoding symbol in bytes.
-    pub symbol: u16,
-    /// The most source symbols of a block.
-    pub max_block: u8,
-    /// The most encoding symbols of a block.
-    pub max_n: u8,
+    pub(crate) length: u64,
+    pub(crate) symbol: u16,
+    pub(crate) max_block: u8,
+    pub(crate) max_n: u8,
 }
 
 impl Model for Oti {
-    ghost use Rattle.oti_blocks.specs.Partition.{ObjectInformation, IsSound};
+    ghost use Rattle.oti_blocks.specs.Scheme.{ObjectInformation, IsSound};
 
     ghost Value = { ObjectInformation };
 
@@ -69,11 +66,10 @@ impl Oti {
 }
 
 /// The blocks of an object of this length.
-#[tactic(auto, unfolding(crate::specs::Partition::blocks, crate::specs::Partition::sources))]
 fn count_blocks(length: u64, symbol: u16, max_block: u8) -> u64
     requires some_symbol { 1 ≤ symbol }
     requires some_block { 1 ≤ max_block }
-    ensures { (n : ℕ) → result ≡ blocks (record { length = length; symbol = symbol; max_block = max_block; max_n = n }) }
+    ensures { result ≡ block_count length symbol max_block }
 {
     length
         .div_ceil(u64::from(symbol))

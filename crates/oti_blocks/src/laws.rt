@@ -1,7 +1,7 @@
 //! Laws of the partition. They speak of the definitions alone.
 
 ghost use Rattle.std.specs.Prelude.{◌≡◌, ℕ, ◌+◌, ◌<◌, ◌≤◌, length, sum};
-ghost use Rattle.oti_blocks.specs.Partition.{ObjectInformation, IsSound, HasSource, sources, blocks, sizes, size_at, start_at, encoding_at};
+ghost use Rattle.oti_blocks.specs.Partition.{ObjectInformation, IsSound, HasSource, sources, blocks, sizes, size_at, start_at, encoding_at, max_block_of, most_encoding};
 
 /// There are as many sizes as blocks, at least one and no more than source symbols.
 pub fn one_size_a_block()
@@ -18,7 +18,7 @@ pub fn sizes_add_up()
 /// A block has at least one source symbol and at most as many as stated.
 pub fn sizes_are_bounded()
     ensures some { (o : ObjectInformation) → IsSound o → (b : ℕ) → b < blocks o → 1 ≤ size_at o b }
-    ensures most { (o : ObjectInformation) → IsSound o → (b : ℕ) → b < blocks o → size_at o b ≤ o.max_block }
+    ensures most { (o : ObjectInformation) → IsSound o → (b : ℕ) → b < blocks o → size_at o b ≤ max_block_of o }
 {}
 
 /// A block starts where the one before it ends.
@@ -46,5 +46,5 @@ pub fn sizes_never_grow()
 /// A block has at least its source symbols as encoding symbols, and at most as many as stated.
 pub fn encoding_is_bounded()
     ensures least { (o : ObjectInformation) → IsSound o → (b : ℕ) → b < blocks o → size_at o b ≤ encoding_at o b }
-    ensures most { (o : ObjectInformation) → IsSound o → (b : ℕ) → b < blocks o → encoding_at o b ≤ o.max_n }
+    ensures most { (o : ObjectInformation) → IsSound o → (b : ℕ) → b < blocks o → encoding_at o b ≤ most_encoding o }
 {}

@@ -6,6 +6,7 @@ mod blocks;
 mod fault;
 mod information;
 pub mod laws;
+mod scheme;
 mod wire;
 
 pub use fault::OtiFault;

@@ -1,7 +1,7 @@
 -- The lines of a dump: what each datagram says, and why the list wasn't read to its end. Numbers are decimal.
 use Rattle.std.specs.Prelude.{ℕ, ◌+◌, Bool, false, List, [], ◌∷◌, ◌++◌, length, take, Option, Some, None, Result, Ok, Err, codes}
 use Rattle.hex.specs.Hex.{encode_lower}
-use Rattle.oti_blocks.specs.Partition.{ObjectInformation}
+use Rattle.oti_blocks.specs.Partition.{ObjectInformation, length_of, symbol_of, max_block_of, max_n_of}
 use Rattle.alc_packet.specs.Packet.{SymbolPacket}
 use Rattle.alc_packet.specs.Code.{code_of, detail_of}
 use Rattle.alc_packet.specs.Reply.{reply}
@@ -33,8 +33,8 @@ place_text p =
 -- its object's transmission information
 unfoldable pub information_text : ObjectInformation → List ℕ
 information_text o =
-    labelled (codes " length ") o.length ++ labelled (codes " size ") o.symbol
-    ++ labelled (codes " block ") o.max_block ++ labelled (codes " maxn ") o.max_n
+    labelled (codes " length ") (length_of o) ++ labelled (codes " size ") (symbol_of o)
+    ++ labelled (codes " block ") (max_block_of o) ++ labelled (codes " maxn ") (max_n_of o)
 
 unfoldable pub close_text : Bool → List ℕ
 close_text close = labelled (codes " close ") (truth close)

@@ -59,10 +59,10 @@ fn push_place(alloc: Global, text: &mut String, packet: &Packet<'_>) -> Result<(
 fn push_information(alloc: Global, text: &mut String, oti: &Oti) -> Result<(), AllocError>
     ensures { OnOk result (string_bytes text.new ≡ string_bytes text.old ++ information_text oti.now) }
 {
-    push_labelled(alloc, text, " length ", u128::from(oti.length))?;
-    push_labelled(alloc, text, " size ", u128::from(oti.symbol))?;
-    push_labelled(alloc, text, " block ", u128::from(oti.max_block))?;
-    push_labelled(alloc, text, " maxn ", u128::from(oti.max_n))
+    push_labelled(alloc, text, " length ", u128::from(oti.length()))?;
+    push_labelled(alloc, text, " size ", u128::from(oti.symbol()))?;
+    push_labelled(alloc, text, " block ", u128::from(oti.max_block()))?;
+    push_labelled(alloc, text, " maxn ", u128::from(oti.max_n()))
 }
 
 fn push_control(alloc: Global, text: &mut String, tsi: u64, close: bool) -> Result<(), AllocError>

@@ -32,6 +32,7 @@ use Rattle.sender_schedule.proofs.Public.{only}
 use Rattle.run_headline.specs.Headline.{IsDatagramOf}
 use Rattle.run_headline.specs.SentSession.{objects_sent}
 use Rattle.run_headline.proofs.DatagramBytes.{written_bytes}
+use Rattle.oti_blocks.specs.Partition.{symbol_of}
 
 of_object : (s : Session) (at : ℕ) (o : Option SentObject) (x : Sent) → IsSession s → slice_get s.objects at ≡ o → option_map sent_of o ≡ Some x → IsSent x
 of_object s at None x session found is = cc
@@ -54,7 +55,7 @@ packet_belongs s p sent = record {
   sent = ap (λ none. if none then None else option_map sent_of (object_of s p.toi)) (ne_eqb p.toi 0 (λ zero. omega (arith, zero, sent.toi.some)))
       ∙ ap (option_map sent_of) sent.known;
   information = sent.information;
-  symbol = subst (λ o. IsSymbolRow (block_rows (sent_of sent.object) p.sbn) o.symbol p.esi (full p)) sent.information sent.symbol;
+  symbol = subst (λ o. IsSymbolRow (block_rows (sent_of sent.object) p.sbn) (symbol_of o) p.esi (full p)) sent.information sent.symbol;
 }
 
 pub packets_belong : (s : Session) (d : List ℕ) (p : SymbolPacket) → Belongs s d → Spells d p → headline.Belongs (objects_sent s) p
@@ -82,8 +83,8 @@ place_bytes s toi o p session has found is =
     let x : Sent = sent_of o in
     let few = few_rows x p.sbn can.sent is.sbn in
     written_bytes (packet s.tsi o p) (packet_is s.tsi o p session.tsi can is)
-    (symbol_bytes (block_rows x p.sbn) o.oti.symbol p.esi (symbol_row (block_rows x p.sbn) o.oti.symbol p.esi)
-    (symbol_row_of_bytes (block_rows x p.sbn) o.oti.symbol p.esi (λ at less. block_rows_bytes x p.sbn at can.sent less)
+    (symbol_bytes (block_rows x p.sbn) (symbol_of o.oti) p.esi (symbol_row (block_rows x p.sbn) (symbol_of o.oti) p.esi)
+    (symbol_row_of_bytes (block_rows x p.sbn) (symbol_of o.oti) p.esi (λ at less. block_rows_bytes x p.sbn at can.sent less)
     (λ at. omega (arith, few, length-block_rows x p.sbn at))))
 
 object_bytes : (s : Session) (toi : ℕ) → IsSession s → HasObject s toi → All AreBytes (object_datagrams s toi)

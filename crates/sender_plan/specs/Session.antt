@@ -1,7 +1,7 @@
 -- A session as its sender plans it: objects, and the instances that list them (RFC 6968, section 3).
 use Rattle.std.specs.Prelude.{◌≡◌, ℕ, ◌+◌, ◌-◌, ◌≤◌, ◌<◌, ◌^◌, true, List, ◌∷◌, Option, Some, length, slice_get, All}
 use Rattle.wire_bytes.specs.Bytes.{AreBytes}
-use Rattle.oti_blocks.specs.Partition.{ObjectInformation, IsSound}
+use Rattle.oti_blocks.specs.Partition.{ObjectInformation, IsSound, length_of, symbol_of}
 use Rattle.carousel_cid.specs.Repeats.{are_different}
 
 -- an object to be sent: its identifier (TOI), its transmission information and its bytes
@@ -41,8 +41,8 @@ pub record IsObject (position : ℕ) (o : SentObject) : Type 0 where
   pub toi : o.toi ≡ position + 1
   pub sound : IsSound o.oti
   pub bytes : AreBytes o.bytes
-  pub long : length o.bytes ≡ o.oti.length
-  pub symbol : o.oti.symbol ≤ 65475
+  pub long : length o.bytes ≡ length_of o.oti
+  pub symbol : symbol_of o.oti ≤ 65475
 
 -- the objects of an instance are the session's, and differ
 pub record IsInstance (s : Session) (i : SentInstance) : Type 0 where

@@ -5,6 +5,7 @@ use Rattle.std.specs.List.{flat_map}
 use Rattle.std.proofs.lemmas.Option.{slice_get_cases}
 use Rattle.std.proofs.lemmas.List.Elements.{All-map}
 use Rattle.wire_bytes.proofs.Public.{filled_whole}
+use Rattle.oti_blocks.specs.Partition.{symbol_of}
 use Rattle.oti_blocks.specs.Sent.{Sent, block_rows}
 use Rattle.rs_code.specs.SourceRows.{IsSymbolRow}
 use Rattle.alc_packet.specs.Packet.{full}
@@ -25,15 +26,15 @@ use Rattle.sender_schedule.proofs.Once.{only}
 
 -- its bytes are those of the symbol
 symbol_is : (tsi : ℕ) (o : SentObject) (p : SymbolId) → CanBeSent o → IsSymbolId o.oti p
-    → IsSymbolRow (block_rows (sent_of o) p.sbn) o.oti.symbol p.esi (full (packet tsi o p))
+    → IsSymbolRow (block_rows (sent_of o) p.sbn) (symbol_of o.oti) p.esi (full (packet tsi o p))
 unfolding full
 symbol_is tsi o p can is =
     let x : Sent = sent_of o in
-    let row = symbol_row (block_rows x p.sbn) o.oti.symbol p.esi in
+    let row = symbol_row (block_rows x p.sbn) (symbol_of o.oti) p.esi in
     let few = few_rows x p.sbn can.sent is.sbn in
-    subst (IsSymbolRow (block_rows x p.sbn) o.oti.symbol p.esi)
-    (sym (filled_whole o.oti.symbol row (omega (arith, length-symbol_row (block_rows x p.sbn) o.oti.symbol p.esi))))
-    (symbol_row_of_bytes (block_rows x p.sbn) o.oti.symbol p.esi (λ at less. block_rows_bytes x p.sbn at can.sent less)
+    subst (IsSymbolRow (block_rows x p.sbn) (symbol_of o.oti) p.esi)
+    (sym (filled_whole (symbol_of o.oti) row (omega (arith, length-symbol_row (block_rows x p.sbn) (symbol_of o.oti) p.esi))))
+    (symbol_row_of_bytes (block_rows x p.sbn) (symbol_of o.oti) p.esi (λ at less. block_rows_bytes x p.sbn at can.sent less)
     (λ at. omega (arith, few, length-block_rows x p.sbn at)))
 
 -- the datagram of a symbol belongs to the session

@@ -5,7 +5,7 @@ use Rattle.std.specs.Prelude.{nat_lt, All}
 use Rattle.std.specs.List.{range_with_len, flat_map}
 use Rattle.std.proofs.lemmas.Bool.{cases_eq, lt-ltb, ltb-true}
 use Rattle.std.proofs.lemmas.List.Elements.{All-map}
-use Rattle.oti_blocks.specs.Partition.{ObjectInformation, IsSound, blocks, encoding_at}
+use Rattle.oti_blocks.specs.Partition.{ObjectInformation, IsSound, blocks, encoding_at, most_encoding}
 use Rattle.oti_blocks.proofs.Public.{encoding_at_bounds}
 use Rattle.sender_schedule.specs.SymbolIds.{IsSymbolId, from_to, symbol_of_each, having, round, symbol_ids}
 use Rattle.sender_schedule.specs.Times.{is_same, times}
@@ -79,7 +79,7 @@ rounds_among o p a (suc m) is from less =
 pub once : (o : ObjectInformation) → IsSound o → (p : SymbolId) → IsSymbolId o p → times p (symbol_ids o) ≡ 1
 once o sound p is =
     let most = (encoding_at_bounds o sound p.sbn is.sbn).1 in
-    rounds_among o p 0 (o.max_n - 0) is (omega arith) (omega (arith, most, is.esi))
+    rounds_among o p 0 (most_encoding o - 0) is (omega arith) (omega (arith, most, is.esi))
 
 -- ---- and no other
 
@@ -98,7 +98,7 @@ having_from o j a (suc m) within = elim (nat_lt j (encoding_at o a))
 
 pub only : (o : ObjectInformation) → All (IsSymbolId o) (symbol_ids o)
 only o =
-    All-flat_map (IsSymbolId o) (round o) (from_to 0 o.max_n)
-    (λ k d less. All-map (IsSymbolId o) (λ b. record { esi = get_or (from_to 0 o.max_n) k d; sbn = b })
-    (having o (get_or (from_to 0 o.max_n) k d) (from_to 0 (blocks o)))
-    (having_from o (get_or (from_to 0 o.max_n) k d) 0 (blocks o - 0) (omega arith)))
+    All-flat_map (IsSymbolId o) (round o) (from_to 0 (most_encoding o))
+    (λ k d less. All-map (IsSymbolId o) (λ b. record { esi = get_or (from_to 0 (most_encoding o)) k d; sbn = b })
+    (having o (get_or (from_to 0 (most_encoding o)) k d) (from_to 0 (blocks o)))
+    (having_from o (get_or (from_to 0 (most_encoding o)) k d) 0 (blocks o - 0) (omega arith)))

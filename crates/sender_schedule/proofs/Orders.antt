@@ -3,8 +3,8 @@ use Rattle.std.proofs.Common.{◌≡◌, ℕ, zero, suc, ◌+◌, ◌-◌, ◌<�
 use Rattle.std.specs.Prelude.{nat_lt}
 use Rattle.std.specs.List.{range_with_len, flat_map}
 use Rattle.std.proofs.lemmas.Bool.{lt-ltb}
-use Rattle.oti_blocks.specs.Partition.{ObjectInformation, IsSound, blocks, encoding_at}
-use Rattle.oti_blocks.proofs.Public.{blocks_pos, size_bounds, encoding_at_bounds, encoding_falls}
+use Rattle.oti_blocks.specs.Partition.{ObjectInformation, IsSound, blocks, encoding_at, most_encoding}
+use Rattle.oti_blocks.proofs.Public.{bounds, max_block_within, blocks_pos, size_bounds, encoding_at_bounds, encoding_falls}
 use Rattle.sender_schedule.specs.SymbolIds.{IsSymbolId, opening, from_to, symbol_of_each, having, round, symbol_ids}
 use Rattle.sender_schedule.specs.Inner.Rest.{round_from, symbol_ids_from}
 use Rattle.sender_schedule.specs.declared.symbol_id.SymbolId.{SymbolId}
@@ -47,9 +47,9 @@ round_more o p is = rw (from_to_more p.sbn (blocks o) is.sbn, lt-ltb p.esi (enco
 
 -- where the next block has no symbol of this number, the next round follows
 turns : (o : ObjectInformation) (p : SymbolId) → IsSound o → IsSymbolId o p → (p.sbn + 1 < blocks o → encoding_at o (p.sbn + 1) ≤ p.esi)
-    → symbol_ids_from o p ≡ p ∷ flat_map (round o) (from_to (p.esi + 1) o.max_n)
+    → symbol_ids_from o p ≡ p ∷ flat_map (round o) (from_to (p.esi + 1) (most_encoding o))
 turns o p sound is none =
-    ap (λ (ps : List SymbolId). ps ++ flat_map (round o) (from_to (p.esi + 1) o.max_n))
+    ap (λ (ps : List SymbolId). ps ++ flat_map (round o) (from_to (p.esi + 1) (most_encoding o)))
     (round_more o p is ∙ ap (λ (ps : List SymbolId). p ∷ ps) (round_none o sound p.esi (p.sbn + 1) none))
 
 -- and it starts in block 0
@@ -58,13 +58,13 @@ pub next_round : (o : ObjectInformation) (p : SymbolId) → IsSound o → IsSymb
 next_round o p sound is none more =
     let most = encoding_at_bounds o sound 0 (blocks_pos o sound) in
     turns o p sound is none
-    ∙ ap (λ js. p ∷ flat_map (round o) js) (from_to_more (p.esi + 1) o.max_n (omega (arith, more, most.1)))
+    ∙ ap (λ js. p ∷ flat_map (round o) js) (from_to_more (p.esi + 1) (most_encoding o) (omega (arith, more, most.1)))
 
 -- where block 0 has no next symbol, none follows
 pub no_round : (o : ObjectInformation) (p : SymbolId) → IsSound o → IsSymbolId o p → (p.sbn + 1 < blocks o → encoding_at o (p.sbn + 1) ≤ p.esi)
     → encoding_at o 0 ≤ p.esi + 1 → symbol_ids_from o p ≡ p ∷ []
 no_round o p sound is none last =
-    turns o p sound is none ∙ ap (λ (ps : List SymbolId). p ∷ ps) (rounds_none o sound (p.esi + 1) (o.max_n - (p.esi + 1)) last)
+    turns o p sound is none ∙ ap (λ (ps : List SymbolId). p ∷ ps) (rounds_none o sound (p.esi + 1) (most_encoding o - (p.esi + 1)) last)
 
 -- ---- the first symbol
 
@@ -76,4 +76,4 @@ first_symbol_id o sound =
     record { sbn = some; esi = omega (arith, size.0, encoding.0) }
 
 pub all_symbol_ids : (o : ObjectInformation) → IsSound o → symbol_ids o ≡ symbol_ids_from o opening
-all_symbol_ids o sound = ap (flat_map (round o)) (from_to_more 0 o.max_n (omega (arith, sound.some_block, sound.block_within)))
+all_symbol_ids o sound = ap (flat_map (round o)) (from_to_more 0 (most_encoding o) (omega (arith, (bounds o sound).some_block, max_block_within o sound)))

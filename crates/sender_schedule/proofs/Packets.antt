@@ -2,7 +2,7 @@
 use Rattle.std.proofs.Common.{◌≡◌, ℕ, ◌+◌, ◌-◌, ◌*◌, ◌/◌, ◌^◌, ◌<◌, ◌≤◌, List, length, get_or, drop, ap, ◌∙◌, arith, inl, get_or-drop}
 use Rattle.std.proofs.lemmas.List.{get_or_past, get_or_default, length-append, length-drop}
 use Rattle.byteorder.specs.Numbers.{length-bytes_high_first}
-use Rattle.oti_blocks.specs.Partition.{ObjectInformation, IsSound, sources, blocks, size_at, start_at, last_length}
+use Rattle.oti_blocks.specs.Partition.{ObjectInformation, IsSound, sources, blocks, size_at, start_at, last_length, length_of, symbol_of}
 use Rattle.oti_blocks.specs.Sent.{Sent, block_rows}
 use Rattle.oti_blocks.proofs.Public.{start-next, start_last, last_length_bounds}
 use Rattle.rs_code.specs.SourceRows.{column}
@@ -30,24 +30,24 @@ last_source o b k sound block place =
     omega (arith, next, end, place)
 
 -- behind the object's end its last source symbol has no byte of the object
-past_end : (o : ObjectInformation) (at : ℕ) → IsSound o → last_length o ≤ at → o.length ≤ (sources o - 1) * o.symbol + at
+past_end : (o : ObjectInformation) (at : ℕ) → IsSound o → last_length o ≤ at → length_of o ≤ (sources o - 1) * symbol_of o + at
 unfolding last_length
 past_end o at sound le = omega (arith, le, (last_length_bounds o sound).0)
 
 -- so it is zero there
 last_zero : (o : SentObject) (p : SymbolId) (at : ℕ) → CanBeSent o → p.sbn + 1 ≡ blocks o.oti → p.esi + 1 ≡ size_at o.oti p.sbn
-    → last_length o.oti ≤ at → at < o.oti.symbol → get_or (symbol_row (block_rows (sent_of o) p.sbn) o.oti.symbol p.esi) at 0 ≡ 0
+    → last_length o.oti ≤ at → at < symbol_of o.oti → get_or (symbol_row (block_rows (sent_of o) p.sbn) (symbol_of o.oti) p.esi) at 0 ≡ 0
 last_zero o p at can block place past within =
     let x : Sent = sent_of o in
     let len = length-block_rows (sent_of o) p.sbn at in
     let few = few_rows x p.sbn can.sent (omega arith) in
     let last = last_source o.oti p.sbn p.esi can.sent.sound block place in
-    get_or-symbol_row (block_rows (sent_of o) p.sbn) o.oti.symbol p.esi at within
+    get_or-symbol_row (block_rows (sent_of o) p.sbn) (symbol_of o.oti) p.esi at within
     ∙ symbol_of_source (column (block_rows (sent_of o) p.sbn) at) p.esi (block_rows_bytes x p.sbn at can.sent within)
     (omega (arith, len, few)) (omega (arith, len, place))
     ∙ get_or-block_rows (sent_of o) p.sbn p.esi at (omega arith) within
-    ∙ ap (λ n. get_or o.bytes (n * o.oti.symbol + at) 0) last
-    ∙ get_or_past o.bytes ((sources o.oti - 1) * o.oti.symbol + at) 0 (omega (arith, can.sent.long, past_end o.oti at can.sent.sound past))
+    ∙ ap (λ n. get_or o.bytes (n * symbol_of o.oti + at) 0) last
+    ∙ get_or_past o.bytes ((sources o.oti - 1) * symbol_of o.oti + at) 0 (omega (arith, can.sent.long, past_end o.oti at can.sent.sound past))
 
 -- the packet of a symbol is one
 pub packet_is : (tsi : ℕ) (o : SentObject) (p : SymbolId) → tsi < 2 ^ 32 → CanBeSent o → IsSymbolId o.oti p → IsPacket (packet tsi o p)
@@ -60,15 +60,15 @@ packet_is tsi o p tsi_fits can is = record {
   symbol = inl (record {
     whole = len;
     filled = λ last i d less.
-        let row = symbol_row (block_rows (sent_of o) p.sbn) o.oti.symbol p.esi in
+        let row = symbol_row (block_rows (sent_of o) p.sbn) (symbol_of o.oti) p.esi in
         let long = length-drop (last_length o.oti) row in
         get_or_default (drop (last_length o.oti) row) i d 0 less
         ∙ get_or-drop (last_length o.oti) row i 0
         ∙ last_zero o p (last_length o.oti + i) can last.block last.place (omega arith) (omega (arith, less, long, len));
   });
 } where
-  len : length (symbol_row (block_rows (sent_of o) p.sbn) o.oti.symbol p.esi) ≡ o.oti.symbol
-  len = length-symbol_row (block_rows (sent_of o) p.sbn) o.oti.symbol p.esi
+  len : length (symbol_row (block_rows (sent_of o) p.sbn) (symbol_of o.oti) p.esi) ≡ symbol_of o.oti
+  len = length-symbol_row (block_rows (sent_of o) p.sbn) (symbol_of o.oti) p.esi
 
 -- ---- the length of a datagram
 
@@ -82,7 +82,7 @@ length_fti o = simp (length-append, length-bytes_high_first) (omega arith)
 length_payload : (p : SymbolPacket) → length (payload_of p) ≡ 4 + length p.symbol
 length_payload p = simp (length-append, length-bytes_high_first) (omega arith)
 
-pub datagram_short : (tsi : ℕ) (o : SentObject) (p : SymbolId) → IsPacket (packet tsi o p) → o.oti.symbol ≤ 65475 → length (datagram tsi o p) ≤ 65535
+pub datagram_short : (tsi : ℕ) (o : SentObject) (p : SymbolId) → IsPacket (packet tsi o p) → symbol_of o.oti ≤ 65475 → length (datagram tsi o p) ≤ 65535
 unfolding datagram
 datagram_short tsi o p is most =
     let q : SymbolPacket = packet tsi o p in
@@ -93,7 +93,7 @@ datagram_short tsi o p is most =
       length_spelling (header_of q) (fti o.oti),
       length_fti o.oti,
       length_payload q,
-      length-symbol_row (block_rows (sent_of o) p.sbn) o.oti.symbol p.esi,
+      length-symbol_row (block_rows (sent_of o) p.sbn) (symbol_of o.oti) p.esi,
       header.tsi_bits,
       header.toi_bits,
       most,

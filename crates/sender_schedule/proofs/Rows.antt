@@ -5,16 +5,16 @@ use Rattle.std.proofs.Math.Nat.{mul-le-mul_left, mul-le-mul_right}
 use Rattle.std.proofs.lemmas.List.{get_or_default}
 use Rattle.wire_bytes.specs.Bytes.{AreBytes, zero_filled}
 use Rattle.wire_bytes.proofs.Public.{byte_at_place}
-use Rattle.oti_blocks.specs.Partition.{ObjectInformation, IsSound, sources, blocks, size_at, start_at}
+use Rattle.oti_blocks.specs.Partition.{ObjectInformation, IsSound, sources, blocks, size_at, start_at, length_of, symbol_of}
 use Rattle.oti_blocks.specs.Sent.{Sent, IsSent, filled, block_rows}
-use Rattle.oti_blocks.proofs.Public.{last_length_bounds, sources_bounds, size_bounds, block_end}
+use Rattle.oti_blocks.proofs.Public.{bounds, last_length_bounds, sources_bounds, size_bounds, block_end}
 use Rattle.rs_code.specs.SourceRows.{column}
 use Rattle.rs_code.proofs.Public.{length-column, get_or-column}
 
 -- a source symbol starts within the object
-pub starts_within : (o : ObjectInformation) (n : ℕ) → IsSound o → n < sources o → n * o.symbol ≤ o.length
+pub starts_within : (o : ObjectInformation) (n : ℕ) → IsSound o → n < sources o → n * symbol_of o ≤ length_of o
 starts_within o n sound less =
-    let last : n * o.symbol ≤ (sources o - 1) * o.symbol = mul-le-mul_right o.symbol (omega arith) in
+    let last : n * symbol_of o ≤ (sources o - 1) * symbol_of o = mul-le-mul_right (symbol_of o) (omega arith) in
     omega (arith, last, (last_length_bounds o sound).0)
 
 -- and a source symbol of a block is one of the object
@@ -24,8 +24,8 @@ source_within o b i sound block less = omega (arith, block_end o sound b block, 
 -- there are not many
 pub sources_fit : (o : ObjectInformation) → IsSound o → sources o < 2 ^ 49
 sources_fit o sound =
-    let most : sources o * 1 ≤ sources o * o.symbol = mul-le-mul_left (sources o) sound.some_symbol in
-    omega (arith, most, (sources_bounds o sound).1, sound.length_fits, sound.symbol_fits)
+    let most : sources o * 1 ≤ sources o * symbol_of o = mul-le-mul_left (sources o) (bounds o sound).some_symbol in
+    omega (arith, most, (sources_bounds o sound).1, (bounds o sound).length_fits, (bounds o sound).symbol_fits)
 
 -- zeros behind bytes don't show
 zero_at : (n i : ℕ) → get_or {A = ℕ} (replicate n 0) i 0 ≡ 0
@@ -47,7 +47,7 @@ filled_at size i xs = behind xs (size - length xs) i
 -- a block has as many rows as source symbols
 pub length-block_rows : (x : Sent) (b at : ℕ) → length (column (block_rows x b) at) ≡ size_at x.oti b
 unfolding block_rows
-length-block_rows x b at = length-column (size_at x.oti b) x.oti.symbol at (drop (start_at x.oti b * x.oti.symbol) (filled x))
+length-block_rows x b at = length-column (size_at x.oti b) (symbol_of x.oti) at (drop (start_at x.oti b * symbol_of x.oti) (filled x))
 
 -- at most 255
 pub few_rows : (x : Sent) (b : ℕ) → IsSent x → b < blocks x.oti → size_at x.oti b ≤ 255
@@ -57,20 +57,20 @@ place_of : (start i size at : ℕ) → start * size + (i * size + at) ≡ (start
 place_of start i size at = omega arith
 
 -- the byte of a row is that byte of the object's source symbol, and 0 behind the object's end
-pub get_or-block_rows : (x : Sent) (b i at : ℕ) → i < size_at x.oti b → at < x.oti.symbol
-    → get_or (column (block_rows x b) at) i 0 ≡ get_or x.bytes ((start_at x.oti b + i) * x.oti.symbol + at) 0
+pub get_or-block_rows : (x : Sent) (b i at : ℕ) → i < size_at x.oti b → at < symbol_of x.oti
+    → get_or (column (block_rows x b) at) i 0 ≡ get_or x.bytes ((start_at x.oti b + i) * symbol_of x.oti + at) 0
 unfolding block_rows filled
 get_or-block_rows x b i at less within =
-    let whole : List ℕ = zero_filled (sources x.oti * x.oti.symbol) x.bytes in
-    get_or-column (size_at x.oti b) x.oti.symbol at i (drop (start_at x.oti b * x.oti.symbol) whole) less within
-    ∙ get_or-drop (start_at x.oti b * x.oti.symbol) whole (i * x.oti.symbol + at) 0
-    ∙ filled_at (sources x.oti * x.oti.symbol) (start_at x.oti b * x.oti.symbol + (i * x.oti.symbol + at)) x.bytes
-    ∙ ap (λ n. get_or x.bytes n 0) (place_of (start_at x.oti b) i x.oti.symbol at)
+    let whole : List ℕ = zero_filled (sources x.oti * symbol_of x.oti) x.bytes in
+    get_or-column (size_at x.oti b) (symbol_of x.oti) at i (drop (start_at x.oti b * symbol_of x.oti) whole) less within
+    ∙ get_or-drop (start_at x.oti b * symbol_of x.oti) whole (i * symbol_of x.oti + at) 0
+    ∙ filled_at (sources x.oti * symbol_of x.oti) (start_at x.oti b * symbol_of x.oti + (i * symbol_of x.oti + at)) x.bytes
+    ∙ ap (λ n. get_or x.bytes n 0) (place_of (start_at x.oti b) i (symbol_of x.oti) at)
 
 -- so the bytes of a column are bytes
-pub block_rows_bytes : (x : Sent) (b at : ℕ) → IsSent x → at < x.oti.symbol → AreBytes (column (block_rows x b) at)
+pub block_rows_bytes : (x : Sent) (b at : ℕ) → IsSent x → at < symbol_of x.oti → AreBytes (column (block_rows x b) at)
 block_rows_bytes x b at is within i d less =
     let len = length-block_rows x b at in
     let li : i < size_at x.oti b = omega (arith, len, less) in
     subst (λ (t : ℕ). t < 256) (sym (get_or_default (column (block_rows x b) at) i d 0 less ∙ get_or-block_rows x b i at li within))
-    (byte_at_place x.bytes is.bytes ((start_at x.oti b + i) * x.oti.symbol + at))
+    (byte_at_place x.bytes is.bytes ((start_at x.oti b + i) * symbol_of x.oti + at))

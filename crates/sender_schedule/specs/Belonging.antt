@@ -1,6 +1,6 @@
 -- What a packet has to do with the session that is sent.
 use Rattle.std.specs.Prelude.{◌≡◌, ℕ, ◌<◌, false, List, Some}
-use Rattle.oti_blocks.specs.Partition.{blocks, encoding_at}
+use Rattle.oti_blocks.specs.Partition.{blocks, encoding_at, symbol_of}
 use Rattle.oti_blocks.specs.Sent.{block_rows}
 use Rattle.rs_code.specs.SourceRows.{IsSymbolRow}
 use Rattle.alc_packet.specs.Packet.{SymbolPacket, full}
@@ -18,7 +18,7 @@ pub record IsSentOf (s : Session) (p : SymbolPacket) : Type 0 where
   pub information : p.oti ≡ object.oti
   pub block : p.sbn < blocks p.oti
   pub place : p.esi < encoding_at p.oti p.sbn
-  pub symbol : IsSymbolRow (block_rows (sent_of object) p.sbn) p.oti.symbol p.esi (full p)
+  pub symbol : IsSymbolRow (block_rows (sent_of object) p.sbn) (symbol_of p.oti) p.esi (full p)
   pub close : p.close ≡ false
 
 -- the datagram spells a packet of the session

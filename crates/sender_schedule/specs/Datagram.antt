@@ -1,5 +1,6 @@
 -- The datagram of a symbol of an object.
 use Rattle.std.specs.Prelude.{ℕ, false, List}
+use Rattle.oti_blocks.specs.Partition.{symbol_of}
 use Rattle.oti_blocks.specs.Sent.{Sent, block_rows}
 use Rattle.alc_packet.specs.Packet.{SymbolPacket}
 use Rattle.alc_packet.specs.Writing.{written}
@@ -19,7 +20,7 @@ packet tsi o p = record {
   oti = o.oti;
   sbn = p.sbn;
   esi = p.esi;
-  symbol = symbol_row (block_rows (sent_of o) p.sbn) o.oti.symbol p.esi;
+  symbol = symbol_row (block_rows (sent_of o) p.sbn) (symbol_of o.oti) p.esi;
   close = false;
 }
 

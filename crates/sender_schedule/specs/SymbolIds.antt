@@ -1,7 +1,7 @@
 -- The identifiers of an object's encoding symbols, in the order in which they are sent.
 use Rattle.std.specs.Prelude.{ℕ, ◌-◌, ◌<◌, nat_lt, List, map, filter}
 use Rattle.std.specs.List.{range_with_len, flat_map}
-use Rattle.oti_blocks.specs.Partition.{ObjectInformation, blocks, encoding_at}
+use Rattle.oti_blocks.specs.Partition.{ObjectInformation, blocks, encoding_at, most_encoding}
 use Rattle.sender_schedule.specs.declared.symbol_id.SymbolId.{SymbolId}
 
 -- a symbol of the object: the block is one of its blocks, and the block has an encoding symbol of this number
@@ -31,4 +31,4 @@ round o j = symbol_of_each j (having o j (from_to 0 (blocks o)))
 
 -- for j = 0, 1, 2, ..: symbol j of each block that has one
 abbrev pub symbol_ids : ObjectInformation → List SymbolId
-symbol_ids o = flat_map (round o) (from_to 0 o.max_n)
+symbol_ids o = flat_map (round o) (from_to 0 (most_encoding o))

@@ -6,6 +6,7 @@ ghost use Rattle.sender_schedule.specs.SymbolIds.{IsSymbolId};
 ghost use Rattle.sender_schedule.specs.SymbolRow.{symbol_row};
 ghost use Rattle.sender_schedule.specs.Datagram.{sent_of, packet, datagram};
 ghost use Rattle.sender_schedule.specs.Inner.Sending.{CanBeSent};
+ghost use Rattle.oti_blocks.specs.Partition.{symbol_of};
 
 use crate::symbol::symbol_into;
 use crate::symbol_id::SymbolId;
@@ -30,7 +31,7 @@ pub(crate) fn datagram_into(
     ensures err { OnErr result (out.new.items ≡ out.old.items) }
 {
     let alloc = *out.allocator();
-    let mut symbol = zeros(alloc, usize::from(object.oti.symbol))?;
+    let mut symbol = zeros(alloc, usize::from(object.oti.symbol()))?;
     symbol_into(
         &object.oti,
         object.bytes.as_slice(),
@@ -46,7 +47,7 @@ pub(crate) fn datagram_into(
 fn packet<'a>(tsi: u32, object: &SentObject, id: SymbolId, symbol: &'a [u8]) -> Packet<'a>
     requires object { CanBeSent object.now }
     requires id { IsSymbolId object.now.oti id }
-    requires symbol { symbol.now ≡ symbol_row (block_rows (sent_of object.now) id.sbn) object.now.oti.symbol id.esi }
+    requires symbol { symbol.now ≡ symbol_row (block_rows (sent_of object.now) id.sbn) (symbol_of object.now.oti) id.esi }
     ensures { result ≡ packet tsi object.now id }
 {
     Packet {

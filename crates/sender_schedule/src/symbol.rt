@@ -4,7 +4,7 @@ ghost use Rattle.std.specs.Prelude.{◌≡◌, ℕ, ◌≤◌, ◌<◌, length, 
 ghost use Rattle.std.specs.List.{range_with_len};
 ghost use Rattle.gf256.specs.Field.{product};
 ghost use Rattle.rs_code.specs.Weights.{AreWeights};
-ghost use Rattle.oti_blocks.specs.Partition.{size_at};
+ghost use Rattle.oti_blocks.specs.Partition.{size_at, symbol_of};
 ghost use Rattle.oti_blocks.specs.Sent.{IsSent, block_rows};
 ghost use Rattle.sender_schedule.specs.SymbolIds.{IsSymbolId};
 ghost use Rattle.sender_schedule.specs.SymbolRow.{symbol_row};
@@ -26,8 +26,8 @@ pub(crate) fn symbol_into(
 )
     requires object { IsSent (record { oti = oti.now; bytes = bytes.now }) }
     requires id { IsSymbolId oti.now id }
-    requires zero { out.old ≡ replicate oti.now.symbol 0 }
-    ensures { out.new ≡ symbol_row (block_rows (record { oti = oti.now; bytes = bytes.now }) id.sbn) oti.now.symbol id.esi }
+    requires zero { out.old ≡ replicate (symbol_of oti.now) 0 }
+    ensures { out.new ≡ symbol_row (block_rows (record { oti = oti.now; bytes = bytes.now }) id.sbn) (symbol_of oti.now) id.esi }
 {
     let k = oti.block_k(id.sbn);
     if id.esi < k {
@@ -54,8 +54,8 @@ fn weigh_rows(oti: &Oti, bytes: &[u8], id: SymbolId, weights: &[u8], out: &mut [
     requires object { IsSent (record { oti = oti.now; bytes = bytes.now }) }
     requires id { IsSymbolId oti.now id }
     requires weights { AreWeights (range_with_len 0 (size_at oti.now id.sbn)) id.esi weights.now }
-    requires zero { out.old ≡ replicate oti.now.symbol 0 }
-    ensures { out.new ≡ symbol_row (block_rows (record { oti = oti.now; bytes = bytes.now }) id.sbn) oti.now.symbol id.esi }
+    requires zero { out.old ≡ replicate (symbol_of oti.now) 0 }
+    ensures { out.new ≡ symbol_row (block_rows (record { oti = oti.now; bytes = bytes.now }) id.sbn) (symbol_of oti.now) id.esi }
 {
     let start = oti.block_start(id.sbn);
     for i in 0..oti.block_k(id.sbn) {

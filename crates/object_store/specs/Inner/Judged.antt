@@ -1,5 +1,6 @@
 -- The verdict from what a packet's object says of it.
 use Rattle.std.specs.Prelude.{◌≡◌, ℕ, ◌+◌, nat_lt, ◌==◌, if◌then◌else◌, true, false}
+use Rattle.oti_blocks.specs.Partition.{symbol_of}
 use Rattle.alc_packet.specs.Packet.{SymbolPacket}
 use Rattle.held_packets.specs.declared.kept.Kept.{Kept}
 use Rattle.held_packets.specs.declared.kept.Kept.TheVariants.{Repeat, Spare, OtiDiffers, SymbolDiffers, OverBudget}
@@ -19,7 +20,7 @@ abbrev pub by_finding : ℕ → ℕ → ℕ → SymbolPacket → Finding → Jud
 by_finding budget count opening p Same = Stays Repeat
 by_finding budget count opening p (Differs at) = Stays (SymbolDiffers at)
 by_finding budget count opening p Full = Stays Spare
-by_finding budget count opening p (Wanting held) = by_budget budget count ((opening + (if held == 0 then 64 else 0)) + p.oti.symbol)
+by_finding budget count opening p (Wanting held) = by_budget budget count ((opening + (if held == 0 then 64 else 0)) + symbol_of p.oti)
 
 -- of a packet whose object is held
 abbrev pub judged_in : ℕ → ℕ → ObjectHeld → SymbolPacket → Judgement

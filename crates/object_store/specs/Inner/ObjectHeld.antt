@@ -3,7 +3,7 @@ use Rattle.std.specs.Prelude.{◌≡◌, ℕ, ◌<◌, ◌*◌, ◌-◌, if◌th
 use Rattle.std.specs.Ordering.{nat_cmp}
 use Rattle.std.specs.FinMap.{FinMap, empty, get, insert}
 use Rattle.wire_bytes.specs.Below.{count_below, all_below}
-use Rattle.oti_blocks.specs.Partition.{ObjectInformation, blocks, size_at, start_at, encoding_at}
+use Rattle.oti_blocks.specs.Partition.{ObjectInformation, blocks, size_at, start_at, encoding_at, length_of, symbol_of}
 use Rattle.alc_packet.specs.Packet.{SymbolPacket, full}
 use Rattle.rs_code.specs.SourceRows.{cut, IsSymbolRow}
 use Rattle.object_store.specs.declared.finding.Finding.{Finding}
@@ -19,7 +19,7 @@ new_object o = record { oti = o; parts = empty }
 
 -- a block that isn't open has no rows
 abbrev pub unopened : ObjectInformation → ℕ → BlockHeld
-unopened o b = no_rows (size_at o b) (encoding_at o b) o.symbol
+unopened o b = no_rows (size_at o b) (encoding_at o b) (symbol_of o)
 
 abbrev pub block_at : ObjectHeld → ℕ → BlockHeld
 block_at o b = unwrap_or (get o.parts b) (unopened o.oti b)
@@ -61,17 +61,17 @@ pub record Joins (o : ObjectHeld) (p : SymbolPacket) : Type 0 where
 pub record IsShaped (o : ObjectInformation) (b : ℕ) (h : BlockHeld) : Type 0 where
   pub k : h.k ≡ size_at o b
   pub n : h.n ≡ encoding_at o b
-  pub size : h.size ≡ o.symbol
+  pub size : h.size ≡ symbol_of o
 
 -- the bytes are the source rows of the first n blocks: the rows held there are their symbols
 pub record AreRowsBelow (o : ObjectHeld) (n : ℕ) (bytes : List ℕ) : Type 0 where
-  pub long : length bytes ≡ start_at o.oti n * o.oti.symbol
+  pub long : length bytes ≡ start_at o.oti n * symbol_of o.oti
   pub symbols : (b j : ℕ) (row : List ℕ) → b < n → object_row o b j ≡ Some row
-      → IsSymbolRow (cut (size_at o.oti b) o.oti.symbol (drop (start_at o.oti b * o.oti.symbol) bytes)) o.oti.symbol j row
+      → IsSymbolRow (cut (size_at o.oti b) (symbol_of o.oti) (drop (start_at o.oti b * symbol_of o.oti) bytes)) (symbol_of o.oti) j row
 
 -- the bytes are those of the object, which is done
 pub record IsWholeOf (o : ObjectHeld) (bytes : List ℕ) : Type 0 where
   pub done : is_done o ≡ true
   pub rows : List ℕ
   pub are : AreRowsBelow o (blocks o.oti) rows
-  pub front : bytes ≡ take o.oti.length rows
+  pub front : bytes ≡ take (length_of o.oti) rows

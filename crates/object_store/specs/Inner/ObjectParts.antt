@@ -5,7 +5,7 @@ use Rattle.std.specs.Ordering.{nat_cmp}
 use Rattle.std.specs.FinMap.{FinMap, get as get_in, from_entries}
 use Rattle.std.specs.BTreeMap.{BTreeMap, get}
 use Rattle.wire_bytes.specs.Below.{count_below, list_below}
-use Rattle.oti_blocks.specs.Partition.{ObjectInformation, IsSound, sources, blocks, size_at, start_at, encoding_at}
+use Rattle.oti_blocks.specs.Partition.{ObjectInformation, IsSound, sources, blocks, size_at, start_at, encoding_at, symbol_of}
 use Rattle.alc_packet.specs.Packet.{SymbolPacket}
 use Rattle.object_store.specs.Inner.BlockHeld.{BlockHeld, held_in, with_symbol}
 use Rattle.object_store.specs.Inner.BlockRows.{rows_map, symbols_at}
@@ -23,15 +23,15 @@ abbrev pub places_of : ObjectInformation → List ℕ → ℕ → List ℕ
 places_of o places b = take (size_at o b) (drop (start_at o b) places)
 
 abbrev pub rows_from : ObjectInformation → List ℕ → ℕ → List ℕ
-rows_from o bytes b = drop (start_at o b * o.symbol) bytes
+rows_from o bytes b = drop (start_at o b * symbol_of o) bytes
 
 -- block b of an object that is ready
 unfoldable pub joined_block : ObjectInformation → List ℕ → List ℕ → ℕ → BlockHeld
 joined_block o places bytes b = record {
   k = size_at o b;
   n = encoding_at o b;
-  size = o.symbol;
-  rows = rows_map o.symbol (places_of o places b) (symbols_at (size_at o b) o.symbol (rows_from o bytes b) (places_of o places b));
+  size = symbol_of o;
+  rows = rows_map (symbol_of o) (places_of o places b) (symbols_at (size_at o b) (symbol_of o) (rows_from o bytes b) (places_of o places b));
 }
 
 unfoldable pub joined_parts : ObjectInformation → List ℕ → List ℕ → FinMap nat_cmp BlockHeld

@@ -51,10 +51,10 @@ fn check_packet(
 fn a_packet_has_the_values_of_its_fields(rt: HostRuntime) -> Result<(), Fail> {
     let packet = packet_of(&EMPTY_INSTANCE_DATAGRAM)?;
     check_packet(&rt, &packet, 1, 1, 0, &EMPTY_INSTANCE_DATAGRAM[32..], 1);
-    same(&rt, &packet.oti.length, &28, 2);
-    same(&rt, &packet.oti.symbol, &28, 3);
-    same(&rt, &packet.oti.max_block, &1, 4);
-    same(&rt, &packet.oti.max_n, &1, 5);
+    same(&rt, &packet.oti.length(), &28, 2);
+    same(&rt, &packet.oti.symbol(), &28, 3);
+    same(&rt, &packet.oti.max_block(), &1, 4);
+    same(&rt, &packet.oti.max_n(), &1, 5);
     same(&rt, &packet.close, &false, 6);
     // The symbol of one byte of an object of eight, in a session and an object of 16 bits each.
     let bytes = [
@@ -110,7 +110,7 @@ fn check_wide(
     let packet = packet_of(bytes.as_slice())?;
     let toi = 0xFFFE_FDFC_FBFA_F9F8_F7F6_F5F4_F3F2;
     check_packet(rt, &packet, 0x01_0203, toi, 0, &payload[4..], row);
-    same(rt, &packet.oti.length, &28, row);
+    same(rt, &packet.oti.length(), &28, row);
     Ok(())
 }
 

@@ -84,6 +84,25 @@ fn ranges_of_which_some_are_there(rt: HostRuntime) -> Result<(), Fail> {
     ends_with(&rt, rt.alloc(), &arrivals, 401, Some((2, 11)))
 }
 
+/// Some of those that wait are beaten by what is installed meanwhile, and their files come later.
+#[test]
+fn beaten_while_they_wait(rt: HostRuntime) -> Result<(), Fail> {
+    let arrivals = [
+        (10, Descriptor(1, "1"), None, None),
+        (11, Descriptor(3, "2"), None, None),
+        (12, Descriptor(2, "1"), None, None),
+        (13, Descriptor(4, "2-3"), None, None),
+        (20, Descriptor(2, ""), Some(2), Some((2, 20))),
+        (14, Descriptor(2, "4"), None, Some((2, 20))),
+        (1, File, Some(2), Some((2, 12))),
+        (21, Descriptor(3, ""), Some(3), Some((3, 21))),
+        (2, File, Some(3), Some((3, 11))),
+        (4, File, None, Some((3, 11))),
+        (3, File, Some(4), Some((4, 13))),
+    ];
+    ends_with(&rt, rt.alloc(), &arrivals, 421, Some((4, 13)))
+}
+
 #[test]
 fn a_lower_number_later(rt: HostRuntime) -> Result<(), Fail> {
     let arrivals = [

@@ -7,7 +7,7 @@ use Rattle.std.specs.Borrow.{Bor}
 use Rattle.std.specs.Str.{bytes_eq}
 use Rattle.indexmap.specs.IndexMap.{get}
 use Rattle.wire_bytes.specs.Bytes.{AreBytes}
-use Rattle.oti_blocks.specs.Partition.{IsSound}
+use Rattle.oti_blocks.specs.Partition.{IsSound, length_of, symbol_of}
 use Rattle.carousel_cid.specs.Repeats.{are_different}
 use Rattle.sender_plan.specs.declared.key.FileKey.{FileKey}
 use Rattle.sender_plan.specs.declared.planner.Planner.{Planner}
@@ -43,8 +43,8 @@ pub record Keeps (listed : CatalogInstance → List ℕ) (kept : List Content) (
 pub record IsSendable (o : SentObject) : Type 0 where
   pub sound : IsSound o.oti
   pub bytes : AreBytes o.bytes
-  pub long : length o.bytes ≡ o.oti.length
-  pub symbol : o.oti.symbol ≤ 65475
+  pub long : length o.bytes ≡ length_of o.oti
+  pub symbol : symbol_of o.oti ≤ 65475
 
 -- bodies are told apart, parameters are those of a session, and so are the objects
 pub record IsReady (planner : Planner) : Type 0 where

@@ -1,7 +1,7 @@
 -- What is left of the schedule from a symbol on.
 use Rattle.std.specs.Prelude.{◌≡◌, ℕ, ◌+◌, ◌-◌, List, [], ◌∷◌, ◌++◌, Option, Some, None, map, replicate}
 use Rattle.std.specs.List.{flat_map}
-use Rattle.oti_blocks.specs.Partition.{ObjectInformation, blocks}
+use Rattle.oti_blocks.specs.Partition.{ObjectInformation, blocks, most_encoding}
 use Rattle.sender_plan.specs.Session.{SentObject, SentInstance}
 use Rattle.sender_schedule.specs.SymbolIds.{IsSymbolId, from_to, symbol_of_each, having, round}
 use Rattle.sender_schedule.specs.Datagram.{datagram}
@@ -20,7 +20,7 @@ round_from o j b = symbol_of_each j (having o j (from_to b (blocks o)))
 
 -- the symbols from this one on
 abbrev pub symbol_ids_from : ObjectInformation → SymbolId → List SymbolId
-symbol_ids_from o p = round_from o p.esi p.sbn ++ flat_map (round o) (from_to (p.esi + 1) o.max_n)
+symbol_ids_from o p = round_from o p.esi p.sbn ++ flat_map (round o) (from_to (p.esi + 1) (most_encoding o))
 
 -- the symbols from this one on, where there is one
 abbrev pub rest_of : ObjectInformation → Option SymbolId → List SymbolId

@@ -1,6 +1,6 @@
 use Rattle.std.proofs.Common.{◌≡◌, ◌*◌, ◌==◌, ℕ, take, drop, ap, sym, ◌∙◌, arith}
 use Rattle.std.specs.List.{position_from, zip}
-use Rattle.oti_blocks.specs.Partition.{ObjectInformation, sources, size_at, start_at}
+use Rattle.oti_blocks.specs.Partition.{sources, size_at, start_at, symbol_of}
 use Rattle.oti_blocks.proofs.Public.{encoding_at_bounds}
 use Rattle.alc_packet.specs.Packet.{SymbolPacket}
 use Rattle.wire_bytes.specs.Bytes.{zero_filled}
@@ -21,7 +21,7 @@ pub symbol_difference-requires-clause-symbol : goal.symbol_difference-requires-c
 symbol_difference-requires-clause-symbol c =
     let i = c.packet.inside in
     let p : SymbolPacket = record { tsi = i.tsi; toi = i.toi; oti = i.oti; sbn = i.sbn; esi = i.esi; symbol = i.symbol.now; close = i.close } in
-    omega (arith, symbol_within p c.packet.invariant, ap (λ (o : ObjectInformation). o.symbol) c.oti.view_is)
+    omega (arith, symbol_within p c.packet.invariant, c.symbol-in-Some.ensures.value)
 
 pub returns-in-Some : goal.returns-in-Some
 returns-in-Some c =
@@ -33,15 +33,15 @@ returns-in-Some c =
     let place_is : c.of_block.result.now ≡ places_of i.oti places i.sbn = c.of_block.ensures.part
     ∙ ap (λ (n : ℕ). take n (drop (start_at i.oti i.sbn * 1) places)) (one (size_at i.oti i.sbn))
     ∙ ap (λ (n : ℕ). take (size_at i.oti i.sbn) (drop n places)) (one (start_at i.oti i.sbn)) in
-    let symbol_is : c.oti.inside.symbol ≡ i.oti.symbol = ap (λ (o : ObjectInformation). o.symbol) c.oti.view_is in
+    let symbol_is = c.symbol-in-Some.ensures.value in
     let source_is = c.of_block-source.ensures.part
-    ∙ ap (λ (w : ℕ). take (size_at i.oti i.sbn * w) (drop (start_at i.oti i.sbn * w) bytes)) (c.from.ensures ∙ symbol_is) in
+    ∙ ap (λ (w : ℕ). take (size_at i.oti i.sbn * w) (drop (start_at i.oti i.sbn * w) bytes)) (c.from.ensures ∙ c.symbol.ensures.value) in
     c.compared.ensures ∙ found_joined p places bytes c.of_block-source.result.now c.in-Some.field-0 c.symbol_difference.result c.packet.invariant
     (c.requires.places ∙ ap (λ (q : SymbolPacket). sources q.oti) (sym c.packet.view_is))
-    (c.requires.bytes ∙ ap (λ (q : SymbolPacket). sources q.oti * q.oti.symbol) (sym c.packet.view_is)) source_is
+    (c.requires.bytes ∙ ap (λ (q : SymbolPacket). sources q.oti * symbol_of q.oti) (sym c.packet.view_is)) source_is
     (c.in-Some.ensures.first ∙ ap (position_from (λ q. q == i.esi) 0) place_is)
     (c.symbol_difference.ensures
-    ∙ ap (λ (k : ℕ). position_from differ 0 (zip (symbol_row k c.oti.inside.symbol c.of_block-source.result.now i.esi) (zero_filled c.oti.inside.symbol i.symbol.now)))
+    ∙ ap (λ (k : ℕ). position_from differ 0 (zip (symbol_row k c.symbol-in-Some.result c.of_block-source.result.now i.esi) (zero_filled c.symbol-in-Some.result i.symbol.now)))
     c.block_k-k.ensures.value
     ∙ ap (λ (e : ℕ). position_from differ 0 (zip (symbol_row (size_at i.oti i.sbn) e c.of_block-source.result.now i.esi) (zero_filled e i.symbol.now))) symbol_is)
     ∙ ap (λ (q : SymbolPacket). finding_at (ready_object q.oti places bytes) q) c.packet.view_is

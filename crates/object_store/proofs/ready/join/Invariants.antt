@@ -1,5 +1,5 @@
 use Rattle.std.proofs.Common.{◌≡◌, ◌≤◌, ◌*◌, vec_capacity}
-use Rattle.oti_blocks.specs.Partition.{blocks, sources}
+use Rattle.oti_blocks.specs.Partition.{blocks, sources, symbol_of}
 use Rattle.object_store.specs.Inner.ObjectHeld.{AreRowsBelow}
 use Rattle.object_store.specs.Inner.ObjectParts.{object_of, AreJoinedBelow}
 use Rattle.object_store.proofs.ready.join.Given as goal
@@ -10,5 +10,5 @@ invariant-loop-sbn l = record {
   joined : AreJoinedBelow (object_of l.oti l.parts) l.sbn-counter l.places.items l.bytes.items;
   rows : AreRowsBelow (object_of l.oti l.parts) l.sbn-counter l.bytes.items;
   room_placed : sources l.oti ≤ vec_capacity l.places;
-  room_joined : sources l.oti * l.oti.symbol ≤ vec_capacity l.bytes;
+  room_joined : sources l.oti * symbol_of l.oti ≤ vec_capacity l.bytes;
 }

@@ -2,7 +2,7 @@
 use Rattle.std.proofs.Common.{◌≡◌, ℕ, ◌+◌, ◌*◌, ◌<◌, List, length, get_or, sym, ap, ◌∙◌, arith}
 use Rattle.std.proofs.lemmas.List.{length-replicate, get_or-replicate}
 use Rattle.std.proofs.lemmas.List.FromFn.{length-range_with_len}
-use Rattle.oti_blocks.specs.Partition.{sources, size_at, start_at}
+use Rattle.oti_blocks.specs.Partition.{sources, size_at, start_at, symbol_of}
 use Rattle.oti_blocks.specs.Sent.{Sent, block_rows}
 use Rattle.rs_code.specs.Interpolation.{field_sum}
 use Rattle.rs_code.specs.SourceRows.{column}
@@ -15,8 +15,8 @@ use Rattle.sender_schedule.proofs.symbol.weigh_rows.Goals as goal
 pub loop-i-init : goal.loop-i-init
 unfolding weighed_bytes field_sum
 loop-i-init c = record {
-  full = ap length c.requires.zero ∙ length-replicate c.args.oti.now.symbol 0;
-  sums = λ at less. ap (λ (xs : List ℕ). get_or xs at 0) c.requires.zero ∙ get_or-replicate c.args.oti.now.symbol at 0 0 less;
+  full = ap length c.requires.zero ∙ length-replicate (symbol_of c.args.oti.now) 0;
+  sums = λ at less. ap (λ (xs : List ℕ). get_or xs at 0) c.requires.zero ∙ get_or-replicate (symbol_of c.args.oti.now) at 0 0 less;
 }
 
 -- the row is one of the block's
@@ -46,7 +46,7 @@ loop-i-preserved c =
           let number : c.block_start-start.result + c.from.result ≡ start_at x.oti b + c.loop-i.i = omega (arith, c.block_start-start.ensures) in
           let byte : get_or c.source_symbol-row.result.now at 0 ≡ get_or (column (block_rows x b) at) c.loop-i.i 0 =
           c.source_symbol-row.ensures.bytes at less
-          ∙ ap (λ n. get_or x.bytes (n * x.oti.symbol + at) 0) number
+          ∙ ap (λ n. get_or x.bytes (n * symbol_of x.oti + at) 0) number
           ∙ sym (get_or-block_rows x b c.loop-i.i at (omega (arith, c.block_k-i-end.ensures.value)) less) in
           weighed_more c.args.weights.now (column (block_rows x b) at) c.loop-i.i (get_or c.loop-i.out at 0)
           (get_or c.args.weights.now c.from-in-loop-i.result 0) (get_or c.source_symbol-row.result.now at 0) (get_or c.add_front.new.out at 0)
@@ -60,7 +60,7 @@ returns c =
     let b = c.args.id.sbn in
     let few = few_rows x b c.requires.object c.requires.id.sbn in
     let all : c.loop-i.i ≡ size_at x.oti b = omega (arith, c.block_k-i-end.ensures.value) in
-    row_by_symbols (block_rows x b) x.oti.symbol c.args.id.esi c.loop-i.out c.loop-i.invariant.full
+    row_by_symbols (block_rows x b) (symbol_of x.oti) c.args.id.esi c.loop-i.out c.loop-i.invariant.full
     (λ at less.
     c.loop-i.invariant.sums at less
     ∙ ap (weighed_bytes c.args.weights.now (column (block_rows x b) at)) all

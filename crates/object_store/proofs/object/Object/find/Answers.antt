@@ -1,5 +1,5 @@
 use Rattle.std.proofs.Common.{◌≡◌, ◌*◌, ◌∙◌, ℕ, length, sym, ap, arith, unwrap_or}
-use Rattle.oti_blocks.specs.Partition.{ObjectInformation, sources}
+use Rattle.oti_blocks.specs.Partition.{ObjectInformation, sources, symbol_of}
 use Rattle.oti_blocks.proofs.Public.{start_last}
 use Rattle.alc_packet.specs.Packet.{SymbolPacket}
 use Rattle.object_store.specs.Inner.BlockHeld.{BlockHeld, finding_in}
@@ -23,7 +23,7 @@ find-requires c =
       symbol_within p c.packet.invariant,
       ap (λ (h : BlockHeld). h.size) here,
       (now.1.shaped p.sbn).size,
-      ap (λ (u : ObjectInformation). u.symbol) same,
+      ap (λ (u : ObjectInformation). symbol_of u) same,
     )
 
 pub returns-in-Some : goal.returns-in-Some
@@ -69,8 +69,8 @@ find_joined-requires-clause-bytes c =
     let v = c.self.inside in
     let now = seen_as_joined c.args.self.now v.oti v.parts v.waiting v.places.items v.bytes.items c.self.view_is c.self.invariant c.if-self-eq0.true in
     let same : v.oti ≡ c.args.packet.now.oti = ap (λ (u : ObjectHeld). u.oti) now.0 ∙ c.requires in
-    ap length c.as_slice-then-self-eq0.ensures.value ∙ (now.2.joined now.1).long ∙ ap (λ (n : ℕ). n * v.oti.symbol) (start_last v.oti now.2.sound)
-    ∙ ap (λ (o : ObjectInformation). sources o * o.symbol) same
+    ap length c.as_slice-then-self-eq0.ensures.value ∙ (now.2.joined now.1).long ∙ ap (λ (n : ℕ). n * symbol_of v.oti) (start_last v.oti now.2.sound)
+    ∙ ap (λ (o : ObjectInformation). sources o * symbol_of o) same
 
 pub returns-then-self-eq0 : goal.returns-then-self-eq0
 returns-then-self-eq0 c =

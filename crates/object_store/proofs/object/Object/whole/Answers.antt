@@ -2,7 +2,7 @@ use Rattle.std.proofs.Common.{◌≡◌, ◌∙◌, ℕ, true, false, length, ta
 use Rattle.std.specs.Prelude.{◌==◌}
 use Rattle.std.proofs.lemmas.List.{length-take}
 use Rattle.std.proofs.lemmas.Bool.Decides.{nat_tests}
-use Rattle.oti_blocks.specs.Partition.{blocks}
+use Rattle.oti_blocks.specs.Partition.{blocks, length_of}
 use Rattle.object_store.specs.Inner.ObjectHeld.{ObjectHeld, is_done, is_block_done, IsWholeOf}
 use Rattle.object_store.specs.Inner.ObjectParts.{object_seen}
 use Rattle.object_store.proofs.WithPacket.{none_waits}
@@ -34,7 +34,7 @@ returns-then-self-eq0-clause-whole c =
       rows = v.bytes.items;
       are = c.self.invariant.joined done;
       front =
-          ap (λ (n : ℕ). take n c.as_slice.result.now) c.length.ensures.value ∙ ap (take v.oti.length) c.as_slice.ensures.value;
+          ap (λ (n : ℕ). take n c.as_slice.result.now) c.length.ensures.value ∙ ap (take (length_of v.oti)) c.as_slice.ensures.value;
     })
 
 pub returns-else-self-eq0-clause-waits : goal.returns-else-self-eq0-clause-waits
