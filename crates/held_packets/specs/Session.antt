@@ -1,10 +1,10 @@
 -- Sessions and the packets that belong to them (RFC 5651, section 2; RFC 5510, section 8).
 use Rattle.std.specs.Prelude.{◌≡◌, ℕ, List, Option, Some, All}
+use Rattle.oti_blocks.specs.Partition.{symbol_of}
 pub use Rattle.oti_blocks.specs.Sent.{Sent, IsSent}
 unfoldable pub use Rattle.oti_blocks.specs.Sent.{filled, block_rows}
 use Rattle.alc_packet.specs.Packet.{SymbolPacket, IsPacket, full}
 use Rattle.rs_code.specs.SourceRows.{IsSymbolRow}
-use Rattle.oti_blocks.specs.Partition.{symbol_of}
 
 -- a session: its objects by their identifiers, so that one identifier is one object
 abbrev pub Session : Type 0

@@ -2,7 +2,7 @@
 
 ghost use Rattle.std.specs.Prelude.{◌≡◌, ◌+◌, ◌≤◌, ◌++◌, ◌∷◌, [], ℕ, List, Some, All, nat_le, true, length, take, fold};
 ghost use Rattle.std.specs.FinMap.{get};
-ghost use Rattle.oti_blocks.specs.Partition.{ObjectInformation};
+ghost use Rattle.oti_blocks.specs.Partition.{ObjectInformation, length_of};
 ghost use Rattle.alc_packet.specs.Packet.{SymbolPacket, IsPacket};
 ghost use Rattle.held_packets.specs.Held.{Held, joined};
 ghost use Rattle.held_packets.specs.HeldPair.{IsHeldPair, AreByteRows};
@@ -27,7 +27,7 @@ pub fn held_is_pair()
 /// The bytes of a ready object are those of the only source rows whose symbols at the held places are the held rows.
 pub fn whole_is_one()
     ensures only { (held : Held) (t : ℕ) (o : ObjectInformation) (rows : List ℕ) → IsHeldPair held → get held.objects t ≡ Some o → is_ready held t o ≡ true
-        → AreSourceRows held t o rows → whole held t ≡ Some (take o.length rows) }
+        → AreSourceRows held t o rows → whole held t ≡ Some (take (length_of o) rows) }
     // There are such rows, whatever bytes are held.
     ensures some { (held : Held) (t : ℕ) (o : ObjectInformation) → IsHeldPair held → AreByteRows held → get held.objects t ≡ Some o → is_ready held t o ≡ true
         → (rows : List ℕ) × AreSourceRows held t o rows }
