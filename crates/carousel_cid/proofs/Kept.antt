@@ -8,7 +8,7 @@ use Rattle.carousel_cid.specs.Repeats.{first_places, are_different}
 use Rattle.carousel_cid.specs.Inner.Walks.{added, added_all}
 
 -- an identifier stands in a list
-abbrev stands : ℕ → List ℕ → Bool
+abbrev pub stands : ℕ → List ℕ → Bool
 stands t ts = list_any (λ u. u == t) ts
 
 abbrev is_new : List ℕ → ℕ → Bool

@@ -3,17 +3,15 @@ use Rattle.std.proofs.Common.{◌≡◌, ℕ, zero, suc, ◌+◌, ◌-◌, ◌<�
 use Rattle.std.specs.List.{list_any, range_with_len}
 use Rattle.std.specs.Ordering.{nat_cmp, eq_by_cmp}
 use Rattle.std.specs.BTreeMap.{get, Updates}
+use Rattle.std.proofs.Math.Bool.{or-true}
 use Rattle.std.proofs.lemmas.Bool.{cases_lt, eqb-true, eq-eqb}
 use Rattle.std.proofs.lemmas.Bool.Decides.{nat_tests}
 use Rattle.std.proofs.lemmas.List.Folds.{list_any-append}
 use Rattle.carousel_cid.specs.declared.entry.Entry.{Entry}
 use Rattle.carousel_cid.specs.Inner.Walks.{added, added_all}
 use Rattle.carousel_cid.specs.Inner.Runs.{Seen, IsSeen, StandsIn, AreSeen, IsNext}
+use Rattle.carousel_cid.proofs.Kept.{stands}
 use Rattle.carousel_cid.proofs.Runs.{in_range, from_range}
-
--- an identifier stands in a list
-abbrev stands : ℕ → List ℕ → Bool
-stands t ts = list_any (λ u. u == t) ts
 
 -- ---- what is added of a range of which all, or none, is there
 
@@ -39,13 +37,6 @@ added_new kept a (suc n) none =
 
 -- ---- what the next run says
 
--- nothing that stands in no run stands in the list
-none_there : (seen : Seen) (list : List ℕ) (t : ℕ) → AreSeen seen list → (StandsIn seen t → ⊥) → stands t list ≡ false
-none_there seen list t are none = elim (stands t list) as (λ b. stands t list ≡ b → b ≡ false) [
-  | true ↦ λ e. absurd (none (are.all t e))
-  | false ↦ λ e. refl
-] refl
-
 pub all_known : (seen : Seen) (list : List ℕ) (at next : ℕ) (r : Entry) → AreSeen seen list → IsNext seen at (Some r) → r.first ≤ at → at ≤ next → next ≤ r.last + 1
     → list ≡ added_all list (range_with_len at (next - at))
 all_known seen list at next r are is from on to =
@@ -56,22 +47,6 @@ all_known seen list at next r are is from on to =
       from = omega (arith, from, above);
       to = omega (arith, on, to, below);
     })))
-
-pub new_before : (seen : Seen) (list : List ℕ) (at : ℕ) (r : Entry) → AreSeen seen list → IsNext seen at (Some r) → (t : ℕ) → at ≤ t → t < r.first → stands t list ≡ false
-new_before seen list at r are is t from to = none_there seen list t are (λ s.
-    let least = is.2 s.first s.last s.is (omega (arith, from, s.to)) in
-    let own = are.order r.first r.last is.1 in
-    elim (cases_lt r.last s.last) [
-      | inl less ↦ let apart = are.apart r.first r.last s.first s.last is.1 s.is less in omega (arith, apart, s.from, to, own)
-      | inr past ↦
-          let same : r.last ≡ s.last = omega (arith, least, past) in
-          let both : Some r.first ≡ Some s.first = sym is.1 ∙ ap (get nat_cmp seen) same ∙ s.is in
-          let one : r.first ≡ s.first = cc in
-          omega (arith, one, s.from, to)
-    ])
-
-pub new_behind : (seen : Seen) (list : List ℕ) (at : ℕ) → AreSeen seen list → IsNext seen at None → (t : ℕ) → at ≤ t → stands t list ≡ false
-new_behind seen list at are is t from = none_there seen list t are (λ s. let less = is s.first s.last s.is in omega (arith, less, s.to, from))
 
 -- ---- one run more
 
@@ -113,17 +88,13 @@ order_more old new list first last a f l is = elim (which_run old new list first
   | inr seen ↦ a.are.order f l seen
 ]
 
-or_true : (b : Bool) → (b || true) ≡ true
-or_true true = refl
-or_true false = refl
-
 there_more : (old new : Seen) (list : List ℕ) (first last : ℕ) → Added old new list first last
     → (t : ℕ) → StandsIn new t → stands t (list ++ range_with_len first (last + 1 - first)) ≡ true
 there_more old new list first last a t s =
     list_any-append (λ u. u == t) list (range_with_len first (last + 1 - first)) ∙ elim (which_run old new list first last s.first s.last a s.is) [
       | inl same ↦
           ap (λ b. stands t list || b) (in_range first (last + 1 - first) t (omega (arith, same.0, s.from)) (omega (arith, same.1, s.to, a.order)))
-          ∙ or_true (stands t list)
+          ∙ or-true (stands t list)
       | inr seen ↦ ap (λ b. b || stands t (range_with_len first (last + 1 - first))) (a.are.there t (record { first = s.first; last = s.last; is = seen; from = s.from; to = s.to }))
     ]
 
@@ -176,12 +147,3 @@ seen_more old new list first last are updates order fresh =
       all = all_more old new list first last a;
       apart = apart_more old new list first last a;
     }
-
--- nothing was seen
-pub none_seen : (seen : Seen) → ((t : ℕ) → get nat_cmp seen t ≡ None) → AreSeen seen []
-none_seen seen none = record {
-  order = λ f l is. absurd (let both : None ≡ Some f = sym (none l) ∙ is in cc);
-  there = λ t s. absurd (let both : None ≡ Some s.first = sym (none s.last) ∙ s.is in cc);
-  all = λ t e. absurd (let both : false ≡ true = e in cc);
-  apart = λ f l g m is later less. absurd (let both : None ≡ Some f = sym (none l) ∙ is in cc);
-}

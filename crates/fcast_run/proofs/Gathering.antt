@@ -34,11 +34,6 @@ pub record HasGathered {B : Type 0} (hearing : B → Hearing) (told shown_told :
   pub heard : told → Heard hearing (events_of tsi budget (take count xs)) us ws
   pub was_shown : told → shown_told → shown ≡ published_of tsi budget (take count xs)
 
--- what is left of a count is a count
-pub counted_less : (all bound : Bound) (i : ℕ) (ending : Ending) → bound ≡ less all i → (IsCounted bound → ending ≢ TooMany) → IsCounted all → ending ≢ TooMany
-counted_less (Most most) bound i ending is counted all = absurd all
-counted_less (Count count) bound i ending is counted all = counted (subst IsCounted (sym is) tt)
-
 -- the events of the first datagrams, where the source failed
 pub told_at_fault : (A B : Type 0) (f : Fault) (d : Type 0) (tsi budget i : ℕ) (all : Bound) (xs : List (List ℕ)) (Hears : List Event → Type 0)
     → Blames {A = A} (Err f) d ⊥ ⊥ ⊥ ⊥ → i ≤ limit all → Hears (events_of tsi budget (take i xs))

@@ -1,5 +1,7 @@
 -- The held pair of a session's packets and the set of those that are kept: what they have in common, and that each
 -- packet leaves it so.
+use Rattle.std.proofs.lemmas.Bool.{eqb-false}
+use Rattle.std.proofs.lemmas.Option.{same_Some}
 use Rattle.std.proofs.lemmas.Bool.Decides.{nat_tests}
 use Rattle.std.proofs.Common.{◌≡◌, ◌≢◌, ℕ, ◌<◌, ◌≤◌, true, false, cond, ◌∙◌, refl, sym, ap, subst, arith, List, Some, ◌⊎◌, inl, inr, eqb-true}
 use Rattle.std.specs.Prelude.{is_some, ◌==◌}
@@ -25,16 +27,12 @@ pub record Agrees (s : Session) (held set : Held) : Type 0 where
   pub same : (t b : ℕ) (x : Sent) → s t ≡ Some x → symbols_held held t x.oti b < size_at x.oti b → (j : ℕ) → row_at set (place t b j) ≡ row_at held (place t b j)
   pub most : (t b : ℕ) (x : Sent) → s t ≡ Some x → symbols_held held t x.oti b ≤ size_at x.oti b
 
--- what is there is one
-one_value : {A : Type 0} (x y : A) → Some x ≡ Some y → x ≡ y
-one_value x y e = cc
-
 -- the packet's symbol at its place, by any names of the place
 symbol_there : (s : Session) (p : SymbolPacket) (t b j : ℕ) (row : List ℕ) → IsPacket p
     → Belongs s p → at_place p t b j ≡ true → Some (full p) ≡ Some row → IsSymbolAt s t b j row
 symbol_there s p t b j row packet belongs test is =
     let at = there p t b j test in
-    subst (λ r. IsSymbolAt s t b j r) (one_value (full p) row is)
+    subst (λ r. IsSymbolAt s t b j r) (same_Some (full p) row is)
     (subst (λ n. IsSymbolAt s t b n (full p)) at.esi (subst (λ n. IsSymbolAt s t n p.esi (full p))
     at.sbn (subst (λ n. IsSymbolAt s n p.sbn p.esi (full p)) at.toi (symbol_of_packet s p packet belongs))))
 
@@ -61,10 +59,6 @@ more_symbols held p t b o =
     count_more (encoding_at o b) (λ j. is_held held (place t b j)) (λ j. is_held (joined held p) (place t b j))
     (λ j less. with_row held p t b j (λ r. is_held held (place t b j) ≡ true → is_some r ≡ true) (λ test e. refl) (λ test e. e))
 
--- numbers that don't pass the test for equal ones differ
-differ : (x y : ℕ) → (x == y) ≡ false → x ≢ y
-differ x y h = λ e. grind (arith, nat_tests)
-
 -- of a bound on a block's symbols, by other names of the block
 moved : (held : Held) (t u : ℕ) (o v : ObjectInformation) (b c : ℕ) → t ≡ u → o ≡ v
     → b ≡ c → symbols_held held t o b ≤ size_at o b → symbols_held held u v c ≤ size_at v c
@@ -79,9 +73,9 @@ most_joined : (s : Session) (held : Held) (p : SymbolPacket) (t b : ℕ) (x : Se
 most_joined s held p t b x belongs fresh wanting sent most =
     let own : symbols_held (joined held p) p.toi p.oti p.sbn ≤ size_at p.oti p.sbn = omega (arith, symbols_here held p fresh, wanting) in
     elim (p.toi == t) as (λ c. (p.toi == t) ≡ c → symbols_held (joined held p) t x.oti b ≤ size_at x.oti b) [
-      | false ↦ λ e. omega (arith, symbols_elsewhere held p t b x.oti (λ same other. differ p.toi t e same), most)
+      | false ↦ λ e. omega (arith, symbols_elsewhere held p t b x.oti (λ same other. eqb-false p.toi t e same), most)
       | true ↦ λ e. elim (p.sbn == b) as (λ c. (p.sbn == b) ≡ c → symbols_held (joined held p) t x.oti b ≤ size_at x.oti b) [
-        | false ↦ λ f. omega (arith, symbols_elsewhere held p t b x.oti (λ same other. differ p.sbn b f other), most)
+        | false ↦ λ f. omega (arith, symbols_elsewhere held p t b x.oti (λ same other. eqb-false p.sbn b f other), most)
         | true ↦ λ f.
             let at = eqb-true p.toi t e in
             moved (joined held p) p.toi t p.oti x.oti p.sbn b at (information_is s p t x belongs at sent) (eqb-true p.sbn b f) own
@@ -94,7 +88,7 @@ sent_joined : (s : Session) (held : Held) (p : SymbolPacket) (t : ℕ) (o : Obje
     → get (joined held p).objects t ≡ Some o → (x : Sent) × (s t ≡ Some x) × (o ≡ x.oti)
 sent_joined s held p t o belongs before =
     with_object held p t (λ i. i ≡ Some o → (x : Sent) × (s t ≡ Some x) × (o ≡ x.oti))
-    (λ at is. (belongs.object, ap s (sym at) ∙ belongs.sent, sym (one_value p.oti o is) ∙ belongs.information))
+    (λ at is. (belongs.object, ap s (sym at) ∙ belongs.sent, sym (same_Some p.oti o is) ∙ belongs.information))
     (λ e is. before t o is)
 
 -- both with a packet that joins what is held
@@ -111,7 +105,7 @@ join_both s held set p agrees packet belongs fresh wanting = record {
       (λ test is sent.
       let at = there p t b j test in
       object_joined held p t ∙ by_test (λ o. o ≡ Some x.oti) (p.toi == t) (Some p.oti) (get held.objects t)
-      (λ e. ap (λ o. Some o) (information_is s p t x belongs at.toi sent)) (λ e. absurd (differ p.toi t e at.toi)))
+      (λ e. ap (λ o. Some o) (information_is s p t x belongs at.toi sent)) (λ e. absurd (eqb-false p.toi t e at.toi)))
       (λ test is sent. opened_joined s held p t x belongs sent (agrees.opened t b j row x is sent));
   sent = λ t o. sent_joined s held p t o belongs agrees.sent;
   same = λ t b x sent less j.

@@ -63,7 +63,7 @@ abbrev one_if : Bool → ℕ
 one_if b = if b then 1 else 0
 
 -- the place is held
-abbrev held_at : Held → ℕ → ℕ → ℕ → Bool
+abbrev pub held_at : Held → ℕ → ℕ → ℕ → Bool
 held_at held t b j = is_held held (place t b j)
 
 -- another block has as many symbols as before

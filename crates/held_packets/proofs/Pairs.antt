@@ -3,6 +3,8 @@ use Rattle.std.proofs.Common.{◌≡◌, ◌≢◌, ℕ, ◌<◌, ◌≤◌, tru
 use Rattle.std.proofs.Common.{arith, Option, Some, None, All, inl, inr, eqb-true}
 use Rattle.std.specs.Prelude.{is_some, if◌then◌else◌}
 use Rattle.std.specs.FinMap.{get}
+use Rattle.std.proofs.lemmas.Bool.{eqb-false}
+use Rattle.std.proofs.lemmas.Option.{same_Some}
 use Rattle.std.proofs.lemmas.Bool.Decides.{nat_tests}
 use Rattle.std.proofs.lemmas.List.Elements.{All-head, All-tail}
 use Rattle.oti_blocks.specs.Partition.{ObjectInformation, IsSound, blocks, size_at, encoding_at, symbol_of}
@@ -42,16 +44,9 @@ fresh_of_new budget held p pair packet new = record {
   none None never = refl
   none (Some row) never = absurd (never row refl)
 
--- what is there is one
-one_value : {A : Type 0} (x y : A) → Some x ≡ Some y → x ≡ y
-one_value x y e = cc
-
-differ : (x y : ℕ) → (x == y) ≡ false → x ≢ y
-differ x y h = λ e. grind (arith, nat_tests)
-
 -- the packet's object has the packet's information once it has joined
 information_joined : (held : Held) (p : SymbolPacket) (t : ℕ) (o : ObjectInformation) → p.toi ≡ t → get (joined held p).objects t ≡ Some o → p.oti ≡ o
-information_joined held p t o at is = one_value p.oti o (sym (open_joined held p) ∙ ap (get (joined held p).objects) at ∙ is)
+information_joined held p t o at is = same_Some p.oti o (sym (open_joined held p) ∙ ap (get (joined held p).objects) at ∙ is)
 
 -- an object with this information was open with it, or is the packet's
 pub data Was (held : Held) (p : SymbolPacket) (t : ℕ) (o : ObjectInformation) : Type 0 where
@@ -59,7 +54,7 @@ pub data Was (held : Held) (p : SymbolPacket) (t : ℕ) (o : ObjectInformation) 
   IsPackets : p.toi ≡ t → p.oti ≡ o → Was held p t o
 
 was : (held : Held) (p : SymbolPacket) (t : ℕ) (o : ObjectInformation) → get (joined held p).objects t ≡ Some o → Was held p t o
-was held p t o = with_object held p t (λ i. i ≡ Some o → Was held p t o) (λ at is. IsPackets at (one_value p.oti o is)) (λ e is. WasOpen is)
+was held p t o = with_object held p t (λ i. i ≡ Some o → Was held p t o) (λ at is. IsPackets at (same_Some p.oti o is)) (λ e is. WasOpen is)
 
 -- a row held before is within its object
 row_within : (held : Held) (p : SymbolPacket) (t b j : ℕ) (row : List ℕ) (o : ObjectInformation)
@@ -93,10 +88,10 @@ most_of_packets held p b pair fresh wanting = elim (p.sbn == b) as (λ c. (p.sbn
   | false ↦ λ e. elim (get held.objects p.toi) as (λ i. get held.objects p.toi ≡ i → symbols_held (joined held p) p.toi p.oti b ≤ size_at p.oti b) [
     | None ↦ λ closed.
         let none = count_none (encoding_at p.oti b) (λ j. is_held held (place p.toi b j)) (λ j less. ap is_some (fresh.unopened closed b j)) in
-        omega (arith, symbols_elsewhere held p p.toi b p.oti (λ same other. differ p.sbn b e other), none)
+        omega (arith, symbols_elsewhere held p p.toi b p.oti (λ same other. eqb-false p.sbn b e other), none)
     | Some i ↦ λ open_.
         let most = pair.most p.toi b p.oti (open_ ∙ ap (λ v. Some v) (fresh.agrees i open_)) in
-        omega (arith, symbols_elsewhere held p p.toi b p.oti (λ same other. differ p.sbn b e other), most)
+        omega (arith, symbols_elsewhere held p p.toi b p.oti (λ same other. eqb-false p.sbn b e other), most)
   ] refl
 ] refl
 
@@ -112,19 +107,19 @@ most_joined held p t b o pair fresh wanting (WasOpen open_) = elim (p.toi == t) 
       let same : p.oti ≡ o = sym (fresh.agrees o (ap (get held.objects) at ∙ open_)) in
       subst (λ n. symbols_held (joined held p) n o b ≤ size_at o b)
       at (subst (λ i. symbols_held (joined held p) p.toi i b ≤ size_at i b) same (most_of_packets held p b pair fresh wanting))
-  | false ↦ λ e. omega (arith, symbols_elsewhere held p t b o (λ same other. differ p.toi t e same), pair.most t b o open_)
+  | false ↦ λ e. omega (arith, symbols_elsewhere held p t b o (λ same other. eqb-false p.toi t e same), pair.most t b o open_)
 ] refl
 
 pub pair_joined : (held : Held) (p : SymbolPacket) → IsHeldPair held → IsPacket p → IsFresh held p
     → symbols_held held p.toi p.oti p.sbn < size_at p.oti p.sbn → IsHeldPair (joined held p)
 pair_joined held p pair packet fresh wanting = record {
-  sound = λ t o. with_object held p t (λ i. i ≡ Some o → IsSound o) (λ at is. subst IsSound (one_value p.oti o is) packet.sound) (λ e is. pair.sound t o is);
+  sound = λ t o. with_object held p t (λ i. i ≡ Some o → IsSound o) (λ at is. subst IsSound (same_Some p.oti o is) packet.sound) (λ e is. pair.sound t o is);
   opened = λ t b j row. with_row held p t b j (λ r. r ≡ Some row → is_some (get (joined held p).objects t) ≡ true)
       (λ test is. let at = there p t b j test in ap is_some (ap (get (joined held p).objects) (sym at.toi) ∙ open_joined held p))
       (λ test is. with_object held p t (λ i. is_some i ≡ true) (λ at. refl) (λ e. pair.opened t b j row is));
   within = λ t b j row o is open_.
       with_row held p t b j (λ r. r ≡ Some row → (b < blocks o) × (j < encoding_at o b) × (length row ≡ symbol_of o))
-      (λ test e. let at = there p t b j test in packet_within p t b j row o packet at (information_joined held p t o at.toi open_) (one_value (full p) row e))
+      (λ test e. let at = there p t b j test in packet_within p t b j row o packet at (information_joined held p t o at.toi open_) (same_Some (full p) row e))
       (λ test e. row_within held p t b j row o pair fresh e (was held p t o open_)) is;
   most = λ t b o open_. most_joined held p t b o pair fresh wanting (was held p t o open_);
 }

@@ -4,6 +4,7 @@ use Rattle.std.specs.Prelude.{is_some, if◌then◌else◌}
 use Rattle.std.specs.List.{list_any}
 use Rattle.std.specs.Cmp.{nat_cmp_total}
 use Rattle.std.specs.FinMap.{get, same_map, nat_cmp-IsAntisymmetric}
+use Rattle.std.proofs.Math.Bool.{or-true, or-false}
 use Rattle.std.proofs.lemmas.Bool.Decides.{nat_tests}
 use Rattle.oti_blocks.specs.Partition.{ObjectInformation}
 use Rattle.alc_packet.specs.Packet.{SymbolPacket}
@@ -22,14 +23,6 @@ use Rattle.held_packets.proofs.Sent.{whole_is_sent}
 
 -- ---- what a list gathers, by its packets
 
-or_true : (b : Bool) → (b || true) ≡ true
-or_true true = refl
-or_true false = refl
-
-or_false : (b : Bool) → (b || false) ≡ b
-or_false true = refl
-or_false false = refl
-
 or_assoc : (a b c : Bool) → ((a || b) || c) ≡ (a || (b || c))
 or_assoc true b c = refl
 or_assoc false b c = refl
@@ -37,12 +30,12 @@ or_assoc false b c = refl
 -- whether a row is held with one packet more
 one_row_more : (set : Held) (p : SymbolPacket) (t b j : ℕ) → is_some (row_at (joined set p) (place t b j)) ≡ (is_some (row_at set (place t b j)) || at_place p t b j)
 one_row_more set p t b j = with_row set p t b j (λ r. is_some r ≡ (is_some (row_at set (place t b j)) || at_place p t b j))
-    (λ test. sym (ap (λ c. is_some (row_at set (place t b j)) || c) test ∙ or_true (is_some (row_at set (place t b j)))))
-    (λ test. sym (ap (λ c. is_some (row_at set (place t b j)) || c) test ∙ or_false (is_some (row_at set (place t b j)))))
+    (λ test. sym (ap (λ c. is_some (row_at set (place t b j)) || c) test ∙ or-true (is_some (row_at set (place t b j)))))
+    (λ test. sym (ap (λ c. is_some (row_at set (place t b j)) || c) test ∙ or-false (is_some (row_at set (place t b j)))))
 
 has_row : (set : Held) (ps : List SymbolPacket) (t b j : ℕ)
     → is_some (row_at (fold joined set ps) (place t b j)) ≡ (is_some (row_at set (place t b j)) || list_any (λ p. at_place p t b j) ps)
-has_row set [] t b j = sym (or_false (is_some (row_at set (place t b j))))
+has_row set [] t b j = sym (or-false (is_some (row_at set (place t b j))))
 has_row set (p ∷ ps) t b j =
     has_row (joined set p) ps t b j
     ∙ ap (λ c. c || list_any (λ p. at_place p t b j) ps) (one_row_more set p t b j)
@@ -51,14 +44,14 @@ has_row set (p ∷ ps) t b j =
 -- whether an object is open
 one_object_more : (set : Held) (p : SymbolPacket) (t : ℕ) → is_some (get (joined set p).objects t) ≡ (is_some (get set.objects t) || (p.toi == t))
 one_object_more set p t = with_object set p t (λ o. is_some o ≡ (is_some (get set.objects t) || (p.toi == t)))
-    (λ at. sym (ap (λ c. is_some (get set.objects t) || c) (equal p.toi t at) ∙ or_true (is_some (get set.objects t))))
-    (λ e. sym (ap (λ c. is_some (get set.objects t) || c) e ∙ or_false (is_some (get set.objects t))))
+    (λ at. sym (ap (λ c. is_some (get set.objects t) || c) (equal p.toi t at) ∙ or-true (is_some (get set.objects t))))
+    (λ e. sym (ap (λ c. is_some (get set.objects t) || c) e ∙ or-false (is_some (get set.objects t))))
   where
     equal : (x y : ℕ) → x ≡ y → (x == y) ≡ true
     equal x y e = grind (arith, nat_tests)
 
 has_object : (set : Held) (ps : List SymbolPacket) (t : ℕ) → is_some (get (fold joined set ps).objects t) ≡ (is_some (get set.objects t) || list_any (λ p. p.toi == t) ps)
-has_object set [] t = sym (or_false (is_some (get set.objects t)))
+has_object set [] t = sym (or-false (is_some (get set.objects t)))
 has_object set (p ∷ ps) t =
     has_object (joined set p) ps t
     ∙ ap (λ c. c || list_any (λ p. p.toi == t) ps) (one_object_more set p t)
@@ -84,7 +77,7 @@ some_passes test (p ∷ ps) any = elim (test p) as (λ b. test p ≡ b → (b ||
 passes_in : (test : SymbolPacket → Bool) (qs : List SymbolPacket) (p : SymbolPacket) → IsSameForOne test → IsIn p qs → test p ≡ true → list_any test qs ≡ true
 passes_in test [] p same in_ e = absurd in_
 passes_in test (q ∷ qs) p same (inl one) e = ap (λ b. b || list_any test qs) (same q p one ∙ e)
-passes_in test (q ∷ qs) p same (inr rest) e = ap (λ b. test q || b) (passes_in test qs p same rest e) ∙ or_true (test q)
+passes_in test (q ∷ qs) p same (inr rest) e = ap (λ b. test q || b) (passes_in test qs p same rest e) ∙ or-true (test q)
 
 -- tests that follow from each other are equal
 same_answers : (a b : Bool) → (a ≡ true → b ≡ true) → (b ≡ true → a ≡ true) → a ≡ b

@@ -23,6 +23,7 @@ use Rattle.held_packets.specs.Solved.{source_row, source_byte}
 use Rattle.held_packets.specs.HeldPair.{IsHeldPair}
 use Rattle.held_packets.specs.Whole.{row_or_none, held_places, rows_at, block_bytes, bytes_when_ready, whole}
 use Rattle.held_packets.specs.ObjectRows.{AreSourceRows}
+use Rattle.held_packets.proofs.Counting.{held_at}
 use Rattle.held_packets.proofs.Solved.{HaveSymbols, byte_from_symbols}
 
 -- ---- rows joined again
@@ -48,30 +49,27 @@ join_blocks o xs (suc n) sound le =
 
 -- ---- the held places of a block that is ready
 
-abbrev is_held_at : Held → ℕ → ℕ → ℕ → Bool
-is_held_at held t b j = is_held held (place t b j)
-
 pub length_places : (held : Held) (t b : ℕ) (o : ObjectInformation) → is_block_ready held t o b ≡ true → length (held_places held t o b) ≡ size_at o b
 unfolding held_places
 length_places held t b o ready =
     let enough : size_at o b ≤ symbols_held held t o b = at_most (size_at o b) (symbols_held held t o b) ready in
-    omega (arith, length-take (size_at o b) (which_below (encoding_at o b) (is_held_at held t b)), length_which (encoding_at o b) (is_held_at held t b), enough)
+    omega (arith, length-take (size_at o b) (which_below (encoding_at o b) (held_at held t b)), length_which (encoding_at o b) (held_at held t b), enough)
   where
     at_most : (n m : ℕ) → nat_le n m ≡ true → n ≤ m
     at_most n m h = grind (arith, nat_tests)
 
-pub places_pass : (held : Held) (t b : ℕ) (o : ObjectInformation) → All (IsPassing (encoding_at o b) (is_held_at held t b)) (held_places held t o b)
+pub places_pass : (held : Held) (t b : ℕ) (o : ObjectInformation) → All (IsPassing (encoding_at o b) (held_at held t b)) (held_places held t o b)
 unfolding held_places
-places_pass held t b o = All-take (IsPassing (encoding_at o b) (is_held_at held t b)) (size_at o b)
-    (which_below (encoding_at o b) (is_held_at held t b)) (which_pass (encoding_at o b) (is_held_at held t b))
+places_pass held t b o = All-take (IsPassing (encoding_at o b) (held_at held t b)) (size_at o b)
+    (which_below (encoding_at o b) (held_at held t b)) (which_pass (encoding_at o b) (held_at held t b))
 
 places_differ : (held : Held) (t b : ℕ) (o : ObjectInformation) → AllPairs (λ x y. x ≢ y) (held_places held t o b)
 unfolding held_places
 places_differ held t b o i j d less lt =
-    let xs = which_below (encoding_at o b) (is_held_at held t b) in
+    let xs = which_below (encoding_at o b) (held_at held t b) in
     let within : j < size_at o b = omega (arith, length-take (size_at o b) xs) in
     let inside : j < length xs = omega (arith, length-take (size_at o b) xs) in
-    rw (get_or-take (size_at o b) xs i d (omega arith), get_or-take (size_at o b) xs j d within) (which_differ (encoding_at o b) (is_held_at held t b) i j d less inside)
+    rw (get_or-take (size_at o b) xs i d (omega arith), get_or-take (size_at o b) xs j d within) (which_differ (encoding_at o b) (held_at held t b) i j d less inside)
 
 -- the held places of a ready block are places of the code
 pub are_places : (held : Held) (t b : ℕ) (o : ObjectInformation) → IsSound o → b < blocks o → is_block_ready held t o b ≡ true → ArePlaces (held_places held t o b)

@@ -2,6 +2,7 @@
 use Rattle.std.proofs.Common.{◌≡◌, ℕ, Bool, true, false, cond, ◌||◌, List, [], ◌∷◌, ◌++◌, ◌∙◌, refl, sym, ap, subst, map, take, Option, Some, None, inl, inr, ◌⊎◌, eqb-true, arith, append-nil, length, ◌<◌}
 use Rattle.std.specs.Prelude.{◌==◌, filter, is_some, Vec}
 use Rattle.std.specs.declared.alloc.Global.{Global}
+use Rattle.std.proofs.Math.Bool.{or-true}
 use Rattle.std.proofs.lemmas.Bool.Decides.{nat_tests}
 use Rattle.std.specs.BTreeMap.{get, Updates}
 use Rattle.std.specs.Ordering.{nat_cmp}
@@ -51,10 +52,6 @@ record Loses (P : Candidate → Type 0) (f : Candidate → Bool) (t : ℕ) : Typ
   same : candidate.toi ≡ t
   loses : f candidate ≡ false
 
-or_true : (b : Bool) → (b || true) ≡ true
-or_true true = refl
-or_true false = refl
-
 -- one of a list is left, or it is beaten
 one_left : (P : Candidate → Type 0) (f : Candidate → Bool) (cs : List Candidate) (t : ℕ) → Each P cs → is_in t (map toi_of cs) ≡ true
     → (is_in t (map toi_of (filter f cs)) ≡ true) ⊎ Loses P f t
@@ -67,7 +64,7 @@ one_left P f (c ∷ cs) t all among = elim (c.toi == t) as (λ b. (c.toi == t) �
       ] refl
       | false ↦ λ other h. elim (one_left P f cs t all.1 h) as (λ w. (is_in t (map toi_of (filter f (c ∷ cs))) ≡ true) ⊎ Loses P f t) [
         | inl left ↦ inl (elim (f c) as (λ b. is_in t (map toi_of (cond b (c ∷ filter f cs) (filter f cs))) ≡ true) [
-          | true ↦ ap (λ b. (c.toi == t) || b) left ∙ or_true (c.toi == t)
+          | true ↦ ap (λ b. (c.toi == t) || b) left ∙ or-true (c.toi == t)
           | false ↦ left
         ])
         | inr loses ↦ inr loses

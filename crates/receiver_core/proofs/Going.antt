@@ -5,6 +5,7 @@ use Rattle.std.specs.BTreeMap.{get}
 use Rattle.std.specs.Ordering.{nat_cmp}
 use Rattle.std.specs.List.{flat_map}
 use Rattle.std.proofs.lemmas.Bool.{and_parts}
+use Rattle.std.proofs.Math.Bool.{or-true}
 use Rattle.std.proofs.lemmas.Bool.Decides.{nat_tests}
 use Rattle.carousel_cid.specs.Instances.{Shown}
 use Rattle.carousel_cid.specs.declared.kind.Kind.TheVariants.{Descriptor}
@@ -94,15 +95,11 @@ waits known installed c u us better rest none =
     ∙ ap (λ b. b && not (is_some (get nat_cmp known u))) (itself u) ∙ ap (λ o. not (is_some o)) none)
     ∙ ap (λ b. b || false) (itself c.toi)
 
-or_true : (b : Bool) → (b || true) ≡ true
-or_true true = refl
-or_true false = refl
-
 -- an identifier behind others is in the list
 in_middle : (front gone : List ℕ) (u : ℕ) (us : List ℕ) → is_in u (front ++ (gone ++ (u ∷ us))) ≡ true
 in_middle [] [] u us = ap (λ b. b || is_in u us) (itself u)
-in_middle [] (t ∷ gone) u us = ap (λ b. (t == u) || b) (in_middle [] gone u us) ∙ or_true (t == u)
-in_middle (t ∷ front) gone u us = ap (λ b. (t == u) || b) (in_middle front gone u us) ∙ or_true (t == u)
+in_middle [] (t ∷ gone) u us = ap (λ b. (t == u) || b) (in_middle [] gone u us) ∙ or-true (t == u)
+in_middle (t ∷ front) gone u us = ap (λ b. (t == u) || b) (in_middle front gone u us) ∙ or-true (t == u)
 
 same_parts : (n m : ℕ) (ts us : List ℕ) → Some (Descriptor n ts) ≡ Some (Descriptor m us) → (n ≡ m) × (ts ≡ us)
 same_parts n m ts us e = (cc, cc)

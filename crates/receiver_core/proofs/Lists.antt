@@ -5,6 +5,7 @@ use Rattle.std.specs.Prelude.{◌==◌, if◌then◌else◌}
 use Rattle.std.specs.List.{flat_map}
 use Rattle.std.proofs.Math.Seq.{drop-cons}
 use Rattle.std.proofs.lemmas.Bool.{and_parts, not-true}
+use Rattle.std.proofs.Math.Bool.{or-true}
 use Rattle.std.proofs.lemmas.Bool.Decides.{nat_tests}
 use Rattle.std.proofs.lemmas.Grind.{flat_map-append}
 use Rattle.std.proofs.lemmas.List.{map-append, reverse-append, take_more}
@@ -148,10 +149,7 @@ pub in_first : {A : Type 0} (key : A → ℕ) (xs ys : List A) (t : ℕ) → is_
 in_first key xs ys t e = in_joined key xs ys t ∙ ap (λ b. b || is_in t (map key ys)) e
 
 pub in_second : {A : Type 0} (key : A → ℕ) (xs ys : List A) (t : ℕ) → is_in t (map key ys) ≡ true → is_in t (map key (xs ++ ys)) ≡ true
-in_second key xs ys t e = in_joined key xs ys t ∙ ap (λ b. is_in t (map key xs) || b) e ∙ or_true (is_in t (map key xs)) where
-  or_true : (b : Bool) → (b || true) ≡ true
-  or_true true = refl
-  or_true false = refl
+in_second key xs ys t e = in_joined key xs ys t ∙ ap (λ b. is_in t (map key xs) || b) e ∙ or-true (is_in t (map key xs))
 
 -- what stands in a list stands in it from the end on
 pub in_reverse : {A : Type 0} (key : A → ℕ) (xs : List A) (t : ℕ) → is_in t (map key xs) ≡ true → is_in t (map key (reverse xs)) ≡ true

@@ -5,6 +5,7 @@ use Rattle.std.specs.Prelude.{is_some, option_map, if◌then◌else◌}
 use Rattle.std.specs.Option.{option_or, option_and_then}
 use Rattle.std.specs.BTreeMap.{get}
 use Rattle.std.specs.Ordering.{nat_cmp}
+use Rattle.std.proofs.lemmas.Option.{same_Some}
 use Rattle.std.proofs.lemmas.Bool.Decides.{nat_tests}
 use Rattle.carousel_cid.specs.Instances.{Shown}
 use Rattle.carousel_cid.specs.Kinds.{kind_of_object}
@@ -81,9 +82,6 @@ pub record Knows (objects : Objects) (installed : Option Shown) (cs : List Candi
   pub ended : Each (IsEnded objects installed) cs
   pub every : (t : ℕ) (j : Shown) → complete objects t ≡ Some j → (is_in t (map toi_of cs) ≡ true) ⊎ (beats_installed installed j.number t ≡ false)
 
-some_equal : {A : Type 0} (x y : A) → Some x ≡ Some y → x ≡ y
-some_equal x y e = cc
-
 same_number : (n m : ℕ) (ts us : List ℕ) → Descriptor n ts ≡ Descriptor m us → n ≡ m
 same_number n m ts us e = cc
 
@@ -102,7 +100,7 @@ find_topped objects installed cs t number listed are kind among =
     let c = one.0 in
     let is = one.1.0.0.candidate in
     let kinds : Descriptor c.number (is.front ++ c.rest) ≡ Descriptor number listed =
-    some_equal (Descriptor c.number (is.front ++ c.rest)) (Descriptor number listed) (sym is.kind ∙ ap (kind_at objects) one.1.1 ∙ kind) in
+    same_Some (Descriptor c.number (is.front ++ c.rest)) (Descriptor number listed) (sym is.kind ∙ ap (kind_at objects) one.1.1 ∙ kind) in
     record { c = c; toi = one.1.1; number_is = same_number c.number number (is.front ++ c.rest) listed kinds; topped = one.1.0.1 }
 
 -- where none is chosen, none is there

@@ -17,6 +17,7 @@ use Rattle.carousel_cid.specs.KnownFields.{location_name, type_name, length_name
 use Rattle.carousel_cid.specs.IdentifierList.{comma}
 use Rattle.carousel_cid.specs.File.{type_fields, file_fields, file_bytes}
 use Rattle.carousel_cid.specs.Descriptor.{list_text, descriptor_bytes}
+use Rattle.carousel_cid.proofs.Public.{length_line}
 use Rattle.sender_plan.specs.declared.params.Params.{Params}
 use Rattle.sender_plan.specs.Plan.{information}
 
@@ -40,9 +41,6 @@ length_object : (descriptor : Bool) (fields : List Pair) (body : List ℕ) → (
 length_object descriptor fields body =
     let tail = length_tail (written fields) body in
     (omega (arith, tail.0), omega (arith, tail.1))
-
-length_line : (name value : List ℕ) → length (line_of (name, value)) ≡ length name + 2 + length value + 2
-length_line name value = simp length-append (omega arith)
 
 length_texts : (ts : List ℕ) → AllByRecursion (λ toi. toi < 2 ^ 112) ts → length (join_with_byte comma (map decimal ts)) ≤ 35 * length ts
 length_texts [] small = omega arith
