@@ -1,10 +1,10 @@
 -- The datagram of a symbol of an object.
 use Rattle.std.specs.Prelude.{ℕ, false, List}
 use Rattle.oti_blocks.specs.Sent.{Sent, block_rows}
+use Rattle.object_symbols.specs.SymbolRow.{symbol_row}
 use Rattle.alc_packet.specs.Packet.{SymbolPacket}
 use Rattle.alc_packet.specs.Writing.{written}
 use Rattle.sender_plan.specs.Session.{SentObject}
-use Rattle.sender_schedule.specs.SymbolRow.{symbol_row}
 use Rattle.sender_schedule.specs.declared.symbol_id.SymbolId.{SymbolId}
 use Rattle.oti_blocks.specs.Partition.{symbol_of}
 
