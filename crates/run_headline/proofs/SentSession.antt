@@ -11,6 +11,8 @@ use Rattle.gf256.specs.Polynomial.{power}
 use Rattle.gf256.proofs.Public.{power_lt, value_lt}
 use Rattle.rs_code.specs.SourceRows.{IsSymbolRow}
 use Rattle.oti_blocks.specs.Sent.{Sent, IsSent, block_rows}
+use Rattle.object_symbols.specs.SymbolRow.{symbol_row}
+use Rattle.object_symbols.proofs.Public.{length-block_rows, few_rows, block_rows_bytes, symbol_row_of_bytes}
 use Rattle.alc_packet.specs.Packet.{SymbolPacket, full}
 use Rattle.alc_packet.specs.Datagram.{Spells}
 use Rattle.alc_packet.specs.declared.datagram.Datagram.TheVariants.{Symbol}
@@ -20,13 +22,10 @@ use Rattle.sender_plan.specs.Session.{Session, SentObject, IsSession, HasObject,
 use Rattle.sender_schedule.specs.Datagram.{sent_of, packet, datagram}
 use Rattle.sender_schedule.specs.SymbolIds.{IsSymbolId, symbol_ids}
 use Rattle.sender_schedule.specs.Schedule.{all_cycles, datagrams_of, object_datagrams, schedule}
-use Rattle.sender_schedule.specs.SymbolRow.{symbol_row}
 use Rattle.sender_schedule.specs.declared.symbol_id.SymbolId.{SymbolId}
 use Rattle.sender_schedule.specs.Belonging.{IsSentOf, Belongs}
 use Rattle.sender_schedule.proofs.Public.{each_belongs}
 use Rattle.sender_schedule.proofs.Public.{All-flat_map, all_known, can_be_sent, schedule_by_objects}
-use Rattle.sender_schedule.proofs.Public.{length-block_rows, few_rows, block_rows_bytes}
-use Rattle.sender_schedule.proofs.Public.{symbol_row_of_bytes}
 use Rattle.sender_schedule.proofs.Public.{packet_is}
 use Rattle.sender_schedule.proofs.Public.{only}
 use Rattle.run_headline.specs.Headline.{IsDatagramOf}

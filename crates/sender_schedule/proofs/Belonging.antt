@@ -8,19 +8,18 @@ use Rattle.wire_bytes.proofs.Public.{filled_whole}
 use Rattle.oti_blocks.specs.Partition.{symbol_of}
 use Rattle.oti_blocks.specs.Sent.{Sent, block_rows}
 use Rattle.rs_code.specs.SourceRows.{IsSymbolRow}
+use Rattle.object_symbols.specs.SymbolRow.{symbol_row}
+use Rattle.object_symbols.proofs.Public.{length-block_rows, few_rows, block_rows_bytes, length-symbol_row, symbol_row_of_bytes}
 use Rattle.alc_packet.specs.Packet.{full}
 use Rattle.alc_packet.proofs.Public.{written_spells}
 use Rattle.sender_plan.specs.Session.{Session, SentObject, HasObject, IsSession, objects_of, object_of}
 use Rattle.sender_schedule.specs.SymbolIds.{IsSymbolId, symbol_ids}
-use Rattle.sender_schedule.specs.SymbolRow.{symbol_row}
 use Rattle.sender_schedule.specs.Datagram.{sent_of, packet, datagram}
 use Rattle.sender_schedule.specs.Schedule.{all_cycles, datagrams_of, object_datagrams, schedule}
 use Rattle.sender_schedule.specs.Belonging.{Belongs}
 use Rattle.sender_schedule.specs.Inner.Sending.{CanBeSent}
 use Rattle.sender_schedule.specs.declared.symbol_id.SymbolId.{SymbolId}
 use Rattle.sender_schedule.proofs.Objects.{All-flat_map, all_known, can_be_sent, schedule_by_objects}
-use Rattle.sender_schedule.proofs.Rows.{length-block_rows, few_rows, block_rows_bytes}
-use Rattle.sender_schedule.proofs.SymbolRows.{length-symbol_row, symbol_row_of_bytes}
 use Rattle.sender_schedule.proofs.Packets.{packet_is}
 use Rattle.sender_schedule.proofs.Once.{only}
 

@@ -6,6 +6,8 @@ use Rattle.oti_blocks.specs.Partition.{ObjectInformation, IsSound, sources, bloc
 use Rattle.oti_blocks.specs.Sent.{Sent, block_rows}
 use Rattle.oti_blocks.proofs.Public.{start-next, start_last, last_length_bounds}
 use Rattle.rs_code.specs.SourceRows.{column}
+use Rattle.object_symbols.specs.SymbolRow.{symbol_row}
+use Rattle.object_symbols.proofs.Public.{length-block_rows, few_rows, get_or-block_rows, block_rows_bytes, symbol_of_source, length-symbol_row, get_or-symbol_row}
 use Rattle.lct_header.specs.Header.{Header}
 use Rattle.lct_header.specs.Spelling.{spelling}
 use Rattle.oti_blocks.specs.Wire.{fti}
@@ -15,12 +17,9 @@ use Rattle.alc_packet.specs.Writing.{header_of}
 use Rattle.alc_packet.proofs.Public.{header_suits}
 use Rattle.sender_plan.specs.Session.{SentObject}
 use Rattle.sender_schedule.specs.SymbolIds.{IsSymbolId}
-use Rattle.sender_schedule.specs.SymbolRow.{symbol_row}
 use Rattle.sender_schedule.specs.Datagram.{sent_of, packet, datagram}
 use Rattle.sender_schedule.specs.Inner.Sending.{CanBeSent}
 use Rattle.sender_schedule.specs.declared.symbol_id.SymbolId.{SymbolId}
-use Rattle.sender_schedule.proofs.Rows.{length-block_rows, few_rows, get_or-block_rows, block_rows_bytes}
-use Rattle.sender_schedule.proofs.SymbolRows.{symbol_of_source, length-symbol_row, get_or-symbol_row}
 
 -- the last source symbol of the last block is the object's last
 last_source : (o : ObjectInformation) (b k : ℕ) → IsSound o → b + 1 ≡ blocks o → k + 1 ≡ size_at o b → start_at o b + k ≡ sources o - 1

@@ -2,10 +2,10 @@
 use Rattle.std.specs.Prelude.{ℕ, false, List}
 use Rattle.oti_blocks.specs.Partition.{symbol_of}
 use Rattle.oti_blocks.specs.Sent.{Sent, block_rows}
+use Rattle.object_symbols.specs.SymbolRow.{symbol_row}
 use Rattle.alc_packet.specs.Packet.{SymbolPacket}
 use Rattle.alc_packet.specs.Writing.{written}
 use Rattle.sender_plan.specs.Session.{SentObject}
-use Rattle.sender_schedule.specs.SymbolRow.{symbol_row}
 use Rattle.sender_schedule.specs.declared.symbol_id.SymbolId.{SymbolId}
 
 -- the object by its transmission information and its bytes

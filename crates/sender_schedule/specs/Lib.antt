@@ -1,7 +1,6 @@
 pub mod Gives
 pub mod SymbolIds
 pub mod Times
-pub mod SymbolRow
 pub mod Datagram
 pub mod Schedule
 pub mod Belonging

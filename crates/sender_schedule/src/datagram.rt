@@ -3,15 +3,14 @@
 ghost use Rattle.std.specs.Prelude.{◌≡◌, ◌≤◌, IfOk, OnOk, OnErr, replicate, vec_len};
 ghost use Rattle.oti_blocks.specs.Sent.{block_rows};
 ghost use Rattle.sender_schedule.specs.SymbolIds.{IsSymbolId};
-ghost use Rattle.sender_schedule.specs.SymbolRow.{symbol_row};
+ghost use Rattle.object_symbols.specs.SymbolRow.{symbol_row};
 ghost use Rattle.sender_schedule.specs.Datagram.{sent_of, packet, datagram};
 ghost use Rattle.sender_schedule.specs.Inner.Sending.{CanBeSent};
 ghost use Rattle.oti_blocks.specs.Partition.{symbol_of};
 
-use crate::symbol::symbol_into;
 use crate::symbol_id::SymbolId;
-use crate::weights::WeightRow;
 use alc_packet::{Packet, write};
+use object_symbols::{WeightRow, symbol_into};
 use sender_plan::SentObject;
 use std::alloc::{AllocError, Global};
 
@@ -35,7 +34,8 @@ pub(crate) fn datagram_into(
     symbol_into(
         &object.oti,
         object.bytes.as_slice(),
-        id,
+        id.sbn,
+        id.esi,
         weights,
         &mut symbol,
     );

@@ -1,15 +1,12 @@
 //! Laws of the schedule. They speak of the definitions alone.
 
-ghost use Rattle.std.specs.Prelude.{◌≡◌, ℕ, ◌≤◌, ◌<◌, List, length, true, All};
-ghost use Rattle.gf256.specs.Polynomial.{AreBytes};
-ghost use Rattle.rs_code.specs.SourceRows.{IsSymbolRow, column};
+ghost use Rattle.std.specs.Prelude.{◌≡◌, true, All};
 ghost use Rattle.oti_blocks.specs.Partition.{ObjectInformation, IsSound};
 ghost use Rattle.carousel_cid.specs.Repeats.{are_different};
 ghost use Rattle.sender_plan.specs.Session.{Session, SentInstance, IsSession, objects_of};
 ghost use Rattle.sender_schedule.specs.declared.symbol_id.SymbolId.{SymbolId};
 ghost use Rattle.sender_schedule.specs.SymbolIds.{IsSymbolId, symbol_ids};
 ghost use Rattle.sender_schedule.specs.Times.{times};
-ghost use Rattle.sender_schedule.specs.SymbolRow.{symbol_row};
 ghost use Rattle.sender_schedule.specs.Schedule.{schedule};
 ghost use Rattle.sender_schedule.specs.Belonging.{Belongs};
 
@@ -24,10 +21,4 @@ pub fn each_once()
     ensures once { (o : ObjectInformation) → IsSound o → (p : SymbolId) → IsSymbolId o p → times p (symbol_ids o) ≡ 1 }
     ensures only { (o : ObjectInformation) → All (IsSymbolId o) (symbol_ids o) }
     ensures different { (s : Session) → IsSession s → All (λ i. are_different (objects_of i) ≡ true) s.instances }
-{}
-
-/// The row of bytes of a symbol is that symbol.
-pub fn rows_are_symbols()
-    ensures { (rows : List (List ℕ)) (size j : ℕ)
-        → ((at : ℕ) → at < size → AreBytes (column rows at)) → length rows ≤ 255 → IsSymbolRow rows size j (symbol_row rows size j) }
 {}

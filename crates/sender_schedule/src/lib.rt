@@ -7,10 +7,7 @@ mod datagram;
 mod items;
 pub mod laws;
 mod schedule;
-mod source;
-mod symbol;
 mod symbol_id;
-mod weights;
 
 pub use schedule::Schedule;
 pub use symbol_id::SymbolId;

@@ -11,7 +11,7 @@ ghost use Rattle.sender_schedule.specs.Inner.Rest.{left_of, IsDue};
 use crate::datagram::datagram_into;
 use crate::items::Items;
 use crate::symbol_id::{FIRST, SymbolId, after, first};
-use crate::weights::WeightRow;
+use object_symbols::WeightRow;
 use sender_plan::{SentObject, Session};
 use std::alloc::AllocError;
 use std::marker::Model;

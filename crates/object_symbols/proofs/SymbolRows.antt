@@ -9,7 +9,7 @@ use Rattle.rs_code.specs.SourceRows.{IsSymbolRow, column}
 use Rattle.rs_code.specs.Symbol.{IsSymbol}
 use Rattle.rs_code.specs.Weights.{AreWeights, weighed_bytes}
 use Rattle.rs_code.proofs.Public.{interpolates, source_is_symbol, symbol_unique, weighed_value}
-use Rattle.sender_schedule.specs.SymbolRow.{symbol_in, symbol_row}
+use Rattle.object_symbols.specs.SymbolRow.{symbol_in, symbol_row}
 
 -- it is a symbol of the column
 pub symbol_in_is : (s : List ℕ) (j : ℕ) → AreBytes s → length s ≤ 255 → IsSymbol s j (symbol_in s j)

@@ -1,7 +1,7 @@
 -- At each place the sum, with nothing added behind the row's end.
 use Rattle.std.proofs.Common.{arith}
-use Rattle.sender_schedule.proofs.Fronts.{added_front}
-use Rattle.sender_schedule.proofs.symbol.add_front.Goals as goal
+use Rattle.object_symbols.proofs.Fronts.{added_front}
+use Rattle.object_symbols.proofs.symbol.add_front.Goals as goal
 
 pub returns-clause-sums : goal.returns-clause-sums
 returns-clause-sums c at within =

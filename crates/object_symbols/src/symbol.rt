@@ -1,41 +1,40 @@
 //! The bytes of an encoding symbol.
 
 ghost use Rattle.std.specs.Prelude.{◌≡◌, ℕ, ◌≤◌, ◌<◌, length, slice_index, replicate, bit_xor};
-ghost use Rattle.std.specs.List.{range_with_len};
 ghost use Rattle.gf256.specs.Field.{product};
-ghost use Rattle.rs_code.specs.Weights.{AreWeights};
-ghost use Rattle.oti_blocks.specs.Partition.{size_at, symbol_of};
+ghost use Rattle.oti_blocks.specs.Partition.{blocks, size_at, encoding_at, symbol_of};
 ghost use Rattle.oti_blocks.specs.Sent.{IsSent, block_rows};
-ghost use Rattle.sender_schedule.specs.SymbolIds.{IsSymbolId};
-ghost use Rattle.sender_schedule.specs.SymbolRow.{symbol_row};
+ghost use Rattle.object_symbols.specs.SymbolRow.{symbol_row};
 
 use crate::source::source_symbol;
-use crate::symbol_id::SymbolId;
 use crate::weights::WeightRow;
 use gf256::{Gf, row_add};
 use oti_blocks::Oti;
 
-/// Leaves in `out` a symbol of an object of these bytes. `out` has the length of a symbol and is zero. A
-/// source symbol is copied; a repair symbol is the sum of the block's rows, each with its weight.
-pub(crate) fn symbol_into(
+/// Leaves in `out` encoding symbol `esi` of block `sbn` of an object of these bytes (RFC 5510, section 8.2). `out` has
+/// the length of a symbol and is zero. A source symbol is copied; a repair symbol is the sum of the block's rows, each
+/// with its weight. `weights` are those that were made last, for any object; they are made anew where these are others.
+pub fn symbol_into(
     oti: &Oti,
     bytes: &[u8],
-    id: SymbolId,
+    sbn: u32,
+    esi: u8,
     weights: &mut WeightRow,
     out: &mut [u8],
 )
     requires object { IsSent (record { oti = oti.now; bytes = bytes.now }) }
-    requires id { IsSymbolId oti.now id }
+    requires block { sbn < blocks oti.now }
+    requires place { esi < encoding_at oti.now sbn }
     requires zero { out.old ≡ replicate (symbol_of oti.now) 0 }
-    ensures { out.new ≡ symbol_row (block_rows (record { oti = oti.now; bytes = bytes.now }) id.sbn) (symbol_of oti.now) id.esi }
+    ensures { out.new ≡ symbol_row (block_rows (record { oti = oti.now; bytes = bytes.now }) sbn) (symbol_of oti.now) esi }
 {
-    let k = oti.block_k(id.sbn);
-    if id.esi < k {
-        let number = oti.block_start(id.sbn) + u64::from(id.esi);
+    let k = oti.block_k(sbn);
+    if esi < k {
+        let number = oti.block_start(sbn) + u64::from(esi);
         copy_front(source_symbol(oti, bytes, number), out);
     } else {
-        weights.make(k, id.esi);
-        weigh_rows(oti, bytes, id, weights.weights.as_slice(), out);
+        weights.make(k, esi);
+        weigh_rows(oti, bytes, sbn, weights, out);
     }
 }
 
@@ -49,18 +48,18 @@ fn copy_front(row: &[u8], out: &mut [u8])
     out[..row.len()].copy_from_slice(row);
 }
 
-/// Leaves in `out` the sum of the rows of a symbol's block, each with its weight in the symbol.
-fn weigh_rows(oti: &Oti, bytes: &[u8], id: SymbolId, weights: &[u8], out: &mut [u8])
+/// Leaves in `out` the sum of a block's rows, each with its weight.
+fn weigh_rows(oti: &Oti, bytes: &[u8], sbn: u32, weights: &WeightRow, out: &mut [u8])
     requires object { IsSent (record { oti = oti.now; bytes = bytes.now }) }
-    requires id { IsSymbolId oti.now id }
-    requires weights { AreWeights (range_with_len 0 (size_at oti.now id.sbn)) id.esi weights.now }
+    requires block { sbn < blocks oti.now }
+    requires weights { weights.now.k ≡ size_at oti.now sbn }
     requires zero { out.old ≡ replicate (symbol_of oti.now) 0 }
-    ensures { out.new ≡ symbol_row (block_rows (record { oti = oti.now; bytes = bytes.now }) id.sbn) (symbol_of oti.now) id.esi }
+    ensures { out.new ≡ symbol_row (block_rows (record { oti = oti.now; bytes = bytes.now }) sbn) (symbol_of oti.now) weights.now.esi }
 {
-    let start = oti.block_start(id.sbn);
-    for i in 0..oti.block_k(id.sbn) {
+    let start = oti.block_start(sbn);
+    for i in 0..oti.block_k(sbn) {
         let row = source_symbol(oti, bytes, start + u64::from(i));
-        add_front(row, weights[usize::from(i)], out);
+        add_front(row, weights.weights[usize::from(i)], out);
     }
 }
 

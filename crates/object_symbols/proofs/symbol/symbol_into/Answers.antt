@@ -6,16 +6,16 @@ use Rattle.oti_blocks.specs.Partition.{sources, size_at, start_at, symbol_of}
 use Rattle.oti_blocks.specs.Sent.{Sent, block_rows}
 use Rattle.oti_blocks.proofs.Public.{encoding_at_bounds}
 use Rattle.rs_code.specs.SourceRows.{column}
-use Rattle.sender_schedule.proofs.Rows.{source_within, sources_fit, length-block_rows, few_rows, get_or-block_rows, block_rows_bytes}
-use Rattle.sender_schedule.proofs.SymbolRows.{symbol_of_source, row_by_symbols}
-use Rattle.sender_schedule.proofs.symbol.symbol_into.Goals as goal
+use Rattle.object_symbols.proofs.Rows.{source_within, sources_fit, length-block_rows, few_rows, get_or-block_rows, block_rows_bytes}
+use Rattle.object_symbols.proofs.SymbolRows.{symbol_of_source, row_by_symbols}
+use Rattle.object_symbols.proofs.symbol.symbol_into.Goals as goal
 
 -- the row is one of the block's
 row_within : (c : goal.After-from) → c.block_start.result + c.from.result < sources c.args.oti.now
 row_within c =
     let o = c.args.oti.now in
-    let below : c.args.id.esi < size_at o c.args.id.sbn = omega (arith, c.block_k-k.ensures.value) in
-    omega (arith, c.block_start.ensures, source_within o c.args.id.sbn c.args.id.esi c.requires.object.sound c.requires.id.sbn below)
+    let below : c.args.esi < size_at o c.args.sbn = omega (arith, c.block_k-k.ensures.value) in
+    omega (arith, c.block_start.ensures, source_within o c.args.sbn c.args.esi c.requires.object.sound c.requires.block below)
 
 pub overflow_add-number : goal.overflow_add-number
 overflow_add-number c = omega (arith, row_within c, sources_fit c.args.oti.now c.requires.object.sound)
@@ -26,16 +26,16 @@ source_symbol-requires-clause-within c = row_within c
 pub make-requires-clause-esi : goal.make-requires-clause-esi
 make-requires-clause-esi c =
     let o = c.args.oti.now in
-    let most = (encoding_at_bounds o c.requires.object.sound c.args.id.sbn c.requires.id.sbn).1 in
-    omega (arith, most, c.requires.id.esi, c.requires.object.sound.max_n_fits)
+    let most = (encoding_at_bounds o c.requires.object.sound c.args.sbn c.requires.block).1 in
+    omega (arith, most, c.requires.place, c.requires.object.sound.max_n_fits)
 
-pub returns-then-id-k : goal.returns-then-id-k
-returns-then-id-k c =
+pub returns-then-esi-k : goal.returns-then-esi-k
+returns-then-esi-k c =
     let x : Sent = record { oti = c.args.oti.now; bytes = c.args.bytes.now } in
-    let b = c.args.id.sbn in
-    let i = c.args.id.esi in
+    let b = c.args.sbn in
+    let i = c.args.esi in
     let full : length c.args.out.now ≡ symbol_of x.oti = ap length c.requires.zero ∙ length-replicate (symbol_of x.oti) 0 in
-    let few = few_rows x b c.requires.object c.requires.id.sbn in
+    let few = few_rows x b c.requires.object c.requires.block in
     let number : c.block_start.result + c.from.result ≡ start_at x.oti b + i = omega (arith, c.block_start.ensures) in
     let below : i < size_at x.oti b = omega (arith, c.block_k-k.ensures.value) in
     row_by_symbols (block_rows x b) (symbol_of x.oti) i c.copy_front.new.out (c.copy_front.ensures.len ∙ full)

@@ -8,9 +8,9 @@ use arrayvec::ArrayVec;
 use rs_code::Places;
 
 /// The weights that were made last: those of the rows of a block of `k` source symbols in its encoding symbol
-/// `esi`. There are none yet where `k` is 0.
+/// `esi`. There are none yet where `k` is 0. They hold for each block of that size, of whatever object.
 #[derive(Drop)]
-pub(crate) struct WeightRow {
+pub struct WeightRow {
     pub(crate) k: u8,
     pub(crate) esi: u8,
     pub(crate) weights: ArrayVec<u8, 255>,
@@ -19,7 +19,7 @@ pub(crate) struct WeightRow {
 
 impl WeightRow {
     /// No weights yet.
-    pub(crate) fn new() -> WeightRow {
+    pub fn new() -> WeightRow {
         WeightRow {
             k: 0,
             esi: 0,

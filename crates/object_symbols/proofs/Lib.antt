@@ -1,0 +1,4 @@
+pub mod Rows
+pub mod SymbolRows
+pub mod Fronts
+pub mod Public
