@@ -11,7 +11,7 @@ use Rattle.lct_header.specs.Spelling.{spelling, word_of}
 use Rattle.oti_blocks.specs.Partition.{ObjectInformation}
 use Rattle.oti_blocks.specs.Wire.{fti, fti_content}
 use Rattle.alc_packet.specs.Packet.{SymbolPacket, IsPacket}
-use Rattle.alc_packet.specs.Datagram.{payload_of}
+use Rattle.alc_packet.specs.Datagram.{payload_id, payload_of}
 use Rattle.alc_packet.specs.Writing.{header_of, written}
 use Rattle.alc_packet.proofs.Public.{header_suits}
 
@@ -77,4 +77,4 @@ fti_bytes o = All-cons IsByte 64 (3 ∷ fti_content o) (omega arith) (All-cons I
 pub written_bytes : (p : SymbolPacket) → IsPacket p → AreBytes p.symbol → AreBytes (written p)
 written_bytes p is symbol =
     joined (spelling (header_of p) (fti p.oti)) (payload_of p) (header_bytes (header_of p) (fti p.oti) (header_suits p is) (omega arith) (fti_bytes p.oti))
-    (joined (big_bytes 3 p.sbn) (big_bytes 1 p.esi ++ p.symbol) (big 3 p.sbn) (joined (big_bytes 1 p.esi) p.symbol (big 1 p.esi) symbol))
+    (joined (payload_id p.sbn p.esi) p.symbol (joined (big_bytes 3 p.sbn) (big_bytes 1 p.esi) (big 3 p.sbn) (big 1 p.esi)) symbol)

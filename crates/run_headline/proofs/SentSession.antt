@@ -10,6 +10,7 @@ use Rattle.std.proofs.lemmas.List.{get_or_default}
 use Rattle.gf256.specs.Polynomial.{power}
 use Rattle.gf256.proofs.Public.{power_lt, value_lt}
 use Rattle.rs_code.specs.SourceRows.{IsSymbolRow}
+use Rattle.oti_blocks.specs.Partition.{symbol_of}
 use Rattle.oti_blocks.specs.Sent.{Sent, IsSent, block_rows}
 use Rattle.object_symbols.specs.SymbolRow.{symbol_row}
 use Rattle.object_symbols.proofs.Public.{length-block_rows, few_rows, block_rows_bytes, symbol_row_of_bytes}
@@ -31,7 +32,6 @@ use Rattle.sender_schedule.proofs.Public.{only}
 use Rattle.run_headline.specs.Headline.{IsDatagramOf}
 use Rattle.run_headline.specs.SentSession.{objects_sent}
 use Rattle.run_headline.proofs.DatagramBytes.{written_bytes}
-use Rattle.oti_blocks.specs.Partition.{symbol_of}
 
 of_object : (s : Session) (at : ℕ) (o : Option SentObject) (x : Sent) → IsSession s → slice_get s.objects at ≡ o → option_map sent_of o ≡ Some x → IsSent x
 of_object s at None x session found is = cc
