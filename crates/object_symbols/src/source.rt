@@ -14,8 +14,6 @@ pub(crate) fn source_symbol<'a>(oti: &Oti, bytes: &'a [u8], number: u64) -> &'a 
     ensures bytes { (at : ℕ) → at < symbol_of oti.now → slice_index result.now at ≡ slice_index bytes.now (number * symbol_of oti.now + at) }
     ensures short { length result.now ≤ symbol_of oti.now }
 {
-    // (a sound length is known to fit)
-    let _length = oti.length();
     let size = usize::from(oti.symbol());
     let rest = &bytes[number as usize * size..];
     &rest[..size.min(rest.len())]
