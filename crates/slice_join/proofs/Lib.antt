@@ -1,0 +1,3 @@
+pub mod SliceTypes
+pub mod Bodies
+pub mod Cuts

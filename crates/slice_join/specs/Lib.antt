@@ -1,0 +1,3 @@
+pub mod SliceKind
+pub mod Slice
+pub mod Cut

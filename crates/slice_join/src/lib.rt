@@ -1,0 +1,11 @@
+//! Files cut into slices, and files joined from them, so that a large file that changes in one place is sent anew in
+//! that place alone. A slice is a file itself: its type says so, and its location is the whole file's.
+#![tactic(auto)]
+
+mod cutting;
+mod kind;
+pub mod laws;
+mod slice;
+
+pub use cutting::{Piece, cut};
+pub use kind::is_slice_kind;
