@@ -3,9 +3,17 @@
 #![tactic(auto)]
 
 mod cutting;
+mod fault;
+mod groups;
+mod joined;
+mod joining;
 mod kind;
 pub mod laws;
 mod slice;
+mod stop;
 
 pub use cutting::{Piece, cut};
+pub use fault::JoinFault;
+pub use joined::{Joined, Outcome};
+pub use joining::join;
 pub use kind::is_slice_kind;
