@@ -1,5 +1,5 @@
 -- The body of a slice.
-use Rattle.std.proofs.Common.{◌≡◌, ℕ, ◌+◌, ◌^◌, ◌<◌, ◌≤◌, true, false, cond, List, ◌++◌, Some, None, length, drop, refl, ap, subst, ◌∙◌, arith, nat_lt}
+use Rattle.std.proofs.Common.{◌≡◌, ℕ, ◌+◌, ◌^◌, ◌<◌, ◌≤◌, true, false, cond, List, ◌++◌, Some, None, length, drop, refl, sym, ap, subst, ◌∙◌, arith, nat_lt}
 use Rattle.std.proofs.lemmas.Bool.Decides.{nat_tests}
 use Rattle.byteorder.specs.Endian.{big_bytes, big_number}
 use Rattle.byteorder.specs.Numbers.{big_from-lt, big_number-reads_back}
@@ -48,3 +48,26 @@ read_says body s are is = elim (nat_lt (length body) head_length) as (λ b. nat_
   | true ↦ λ e none. absurd cc
   | false ↦ λ e some. subst (SpellsSlice body) (some_only (slice_of body) s some) (says_that body are (grind (arith, nat_tests)))
 ] refl is
+
+-- ---- whether a body is long enough
+
+pub head_said : (body : List ℕ) (s : Slice) → slice_in body ≡ Some s → s ≡ slice_of body
+unfolding slice_in
+head_said body s is = elim (nat_lt (length body) head_length) as (λ b. cond b None (Some (slice_of body)) ≡ Some s → s ≡ slice_of body) [
+  | true ↦ λ none. absurd cc
+  | false ↦ λ some. sym (some_only (slice_of body) s some)
+] is
+
+pub head_long : (body : List ℕ) (s : Slice) → slice_in body ≡ Some s → nat_lt (length body) head_length ≡ false
+unfolding slice_in
+head_long body s is = elim (nat_lt (length body) head_length) as (λ b. cond b None (Some (slice_of body)) ≡ Some s → b ≡ false) [
+  | true ↦ λ none. absurd cc
+  | false ↦ λ some. refl
+] is
+
+pub head_short : (body : List ℕ) → slice_in body ≡ None → nat_lt (length body) head_length ≡ true
+unfolding slice_in
+head_short body is = elim (nat_lt (length body) head_length) as (λ b. cond b None (Some (slice_of body)) ≡ None → b ≡ true) [
+  | true ↦ λ none. refl
+  | false ↦ λ some. absurd cc
+] is

@@ -54,6 +54,36 @@ impl<'a> Model for Told<'a> {
     ghost invariant = { λ t. t.says ≡ said t.file.now };
 }
 
+impl<'a> Told<'a> {
+    /// Which slice of its file it is.
+    fn place(&self) -> u32
+        ensures { result ≡ (said self.now).place }
+    {
+        self.says.place
+    }
+
+    /// How many slices it says that the file has.
+    fn count(&self) -> u32
+        ensures { result ≡ (said self.now).count }
+    {
+        self.says.count
+    }
+
+    /// How many bytes it says that the file has.
+    fn total(&self) -> u64
+        ensures { result ≡ (said self.now).total }
+    {
+        self.says.total
+    }
+
+    /// The bytes of the file that it carries.
+    fn part(&self) -> &'a [u8]
+        ensures { result.now ≡ (said self.now).part }
+    {
+        self.says.part
+    }
+}
+
 /// The files of an instance, those that are cut into slices joined: each file that is no slice by itself, and what the
 /// slices under each location make, in order of first appearance.
 #[tactic(auto, unfolding(crate::specs::Joins::joins))]
@@ -150,25 +180,29 @@ fn body_of(alloc: Global, entry: &Entry<'_>) -> Result<Vec<u8>, Stop>
     let all = all_told(alloc, entry)?;
     agree(&first, &all)?;
     let parts = parts_of(alloc, &all)?;
-    complete(&parts, first.says.count)?;
+    complete(&parts, first.count())?;
     let found = found_in(&all)?;
-    if found != first.says.total {
+    if found != first.total() {
         return Err(Stop::Fault(JoinFault::Total { found }));
     }
-    Ok(joined_parts(alloc, &parts, first.says.count, found)?)
+    Ok(joined_parts(alloc, &parts, first.count(), found)?)
 }
 
 /// The slice that a file is.
+#[tactic(auto, using(crate::proofs::Bodies::head_said, crate::proofs::Bodies::head_short))]
 fn read_told(file: &FileOf) -> Result<Told<'_>, JoinFault>
     ensures ok { OnOk result (has_bad_head file.now ≡ false) }
     ensures file { IfOk result (λ t. t ≡ file.now) }
     ensures head { OnErr result (has_bad_head file.now ≡ true) }
     ensures err { IfErr result (λ fault. fault ≡ JoinFault.Header file.now.toi) }
 {
-    match Slice::read(file.body.as_slice()) {
-        Some(says) if is_placed(&says) => Ok(Told { file, says }),
-        _ => Err(JoinFault::Header { toi: file.toi }),
+    let Some(says) = Slice::read(file.body.as_slice()) else {
+        return Err(JoinFault::Header { toi: file.toi });
+    };
+    if !is_placed(&says) {
+        return Err(JoinFault::Header { toi: file.toi });
     }
+    Ok(Told { file, says })
 }
 
 /// Whether the place is from 1 to the count, and the count at most 4,096.
@@ -194,7 +228,7 @@ fn all_told<'a>(alloc: Global, entry: &Entry<'a>) -> Result<Vec<Told<'a>>, Stop>
 }
 
 fn push<'a>(all: &mut Vec<Told<'a>>, told: Told<'a>) -> Result<(), AllocError>
-    ensures { OnOk result (all.new.items ≡ all.old.items ++ told ∷ []) }
+    ensures { OnOk result (all.new.items ≡ all.old.items ++ told.entry ∷ []) }
 {
     all.push(told)?;
     Ok(())
@@ -216,8 +250,8 @@ fn agree(first: &Told<'_>, all: &[Told<'_>]) -> Result<(), JoinFault>
 fn is_alike(told: &Told<'_>, first: &Told<'_>) -> bool
     ensures { disagrees first.now told.now ≡ not result }
 {
-    told.says.count == first.says.count
-        && told.says.total == first.says.total
+    told.count() == first.count()
+        && told.total() == first.total()
         && is_one_type(&told.file.kind, &first.file.kind)
 }
 
@@ -239,11 +273,11 @@ fn parts_of<'a>(alloc: Global, all: &[Told<'a>]) -> Result<Parts<'a>, Stop>
 {
     let mut parts = BTreeMap::new(alloc);
     for told in all {
-        let place = told.says.place;
+        let place = told.place();
         if parts.contains_key(&place) {
             return Err(Stop::Fault(JoinFault::Twice { place }));
         }
-        insert(&mut parts, place, told.says.part)?;
+        insert(&mut parts, place, told.part())?;
     }
     Ok(parts)
 }
@@ -277,7 +311,7 @@ fn found_in(all: &[Told<'_>]) -> Result<u64, AllocError>
 {
     let mut found: u64 = 0;
     for told in all {
-        let Some(sum) = found.checked_add(told.says.part.len() as u64) else {
+        let Some(sum) = found.checked_add(told.part().len() as u64) else {
             return Err(AllocError);
         };
         found = sum;
@@ -297,9 +331,19 @@ fn joined_parts(
 {
     let mut body = Vec::with_capacity(alloc, found as usize)?;
     for before in 0..count {
-        if let Some(part) = parts.get(&(before + 1)) {
-            body.extend_from_slice(part)?;
-        }
+        append_part(&mut body, parts, before + 1)?;
     }
     Ok(body)
+}
+
+fn append_part(body: &mut Vec<u8>, parts: &Parts<'_>, place: u32) -> Result<(), AllocError>
+    ensures { OnOk result (body.new.items ≡ body.old.items ++ unwrap_or (option_copied (get nat_cmp parts.now place)) []) }
+{
+    match parts.get(&place) {
+        None => Ok(()),
+        Some(part) => {
+            body.extend_from_slice(part)?;
+            Ok(())
+        }
+    }
 }

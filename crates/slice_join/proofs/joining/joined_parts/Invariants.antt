@@ -1,5 +1,5 @@
 -- the parts so far, with those that are left, are all
-use Rattle.std.proofs.Common.{◌≡◌, ◌+◌, ◌-◌, [], ◌++◌, unwrap_or}
+use Rattle.std.proofs.Common.{◌≡◌, ℕ, ◌+◌, ◌-◌, [], ◌++◌, unwrap_or}
 use Rattle.std.specs.BTreeMap.{get}
 use Rattle.std.specs.List.{flat_map, range_with_len}
 use Rattle.std.specs.Option.{option_copied}
@@ -9,5 +9,5 @@ use Rattle.slice_join.proofs.joining.joined_parts.Given as goal
 
 abbrev pub invariant-loop-before : goal.invariant-loop-before
 invariant-loop-before l =
-    let part = λ p. unwrap_or (option_copied (get nat_cmp l.parts p)) [] in
-    l.body.items ++ flat_map part (range_with_len (l.before + 1) (l.count - l.before)) ≡ flat_map part (places_to l.count)
+    l.body.items ++ flat_map (λ p. unwrap_or (option_copied (get nat_cmp l.parts p)) []) (range_with_len (l.before + 1) (l.count - l.before))
+    ≡ flat_map (λ p. unwrap_or (option_copied (get nat_cmp l.parts p)) []) (places_to l.count)
