@@ -4,3 +4,4 @@ pub mod Cuts
 pub mod Grouping
 pub mod Walks
 pub mod Trees
+pub mod FirstFaults

@@ -176,9 +176,9 @@ fn body_of(alloc: Global, entry: &Entry<'_>) -> Result<Vec<u8>, Stop>
     ensures body { IfOk result (λ v. v.items ≡ joined_body entry.now) }
     ensures err { IfErr result (λ stop. StopsFor (join_fault entry.now) stop) }
 {
-    let first = read_told(entry.first())?;
     let all = all_told(alloc, entry)?;
-    agree(&first, &all)?;
+    let first = &all[0];
+    agree(first, &all)?;
     let parts = parts_of(alloc, &all)?;
     complete(&parts, first.count())?;
     let found = found_in(&all)?;

@@ -1,9 +1,9 @@
-use Rattle.std.proofs.Common.{◌≡◌, ◌++◌, ◌∷◌, [], true, false, Some, None, nat_cmp, sym, ap, subst, ◌∙◌, rules}
+use Rattle.std.proofs.Common.{◌≡◌, true, false, Some, None, nat_cmp, sym, ap, subst, ◌∙◌, rules}
 use Rattle.std.specs.BTreeMap.{get_by}
 use Rattle.std.specs.Cmp.Lexicographic.{slice_cmp}
 use Rattle.std.proofs.lemmas.Result.{on_ok_weaker}
 use Rattle.slice_join.specs.Groups.{is_slice}
-use Rattle.slice_join.specs.Inner.Places.{ArePlaces, begun, with_file, place_from}
+use Rattle.slice_join.specs.Inner.Places.{ArePlaces, place_from}
 use Rattle.slice_join.proofs.Grouping.{plain_behind, new_behind, places_same}
 use Rattle.slice_join.proofs.Trees.{within, takes, plain_places, new_places}
 use Rattle.slice_join.proofs.groups.add.Goals as goal

@@ -1,5 +1,4 @@
-use Rattle.std.proofs.Common.{◌≡◌, ◌++◌, ◌∷◌, [], map, take, false, sym, ap, ◌∙◌}
-use Rattle.carousel_cid.specs.declared.file_of.FileOf.{FileOf}
+use Rattle.std.proofs.Common.{◌++◌, ◌∷◌, [], map, take, sym, ap, ◌∙◌}
 use Rattle.slice_join.specs.Faults.{has_bad_head}
 use Rattle.slice_join.proofs.Walks.{told_behind, told_more}
 use Rattle.slice_join.proofs.joining.all_told.Goals as goal

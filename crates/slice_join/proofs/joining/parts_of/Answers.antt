@@ -3,7 +3,6 @@ use Rattle.std.specs.BTreeMap.{get}
 use Rattle.std.specs.Option.{is_some, option_copied, option_map}
 use Rattle.slice_join.specs.declared.fault.JoinFault.TheVariants.{Twice}
 use Rattle.slice_join.specs.Faults.{is_among, places_of, said}
-use Rattle.slice_join.specs.Joins.{part_at}
 use Rattle.slice_join.proofs.Walks.{held_is_among, once_at, part_more, twice_at}
 use Rattle.slice_join.proofs.joining.parts_of.Goals as goal
 
