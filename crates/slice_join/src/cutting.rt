@@ -2,7 +2,6 @@
 
 ghost use Rattle.std.specs.Prelude.{◌≡◌, ◌≤◌, ◌<◌, length, IfOk};
 ghost use Rattle.std.specs.Option.{option_copied};
-ghost use Rattle.slice_join.specs.Slice as specs;
 ghost use Rattle.slice_join.specs.Cut.{most_pieces, piece_count, piece_of, pieces_of};
 
 use crate::kind::slice_kind;

@@ -1,6 +1,6 @@
 //! The files of an instance in groups: slices under one location together, all others alone.
 
-ghost use Rattle.std.specs.Prelude.{◌≡◌, ◌<◌, ◌++◌, ◌∷◌, [], true, map, vec_len, slice_set, slice_index_or, IfOk, OnOk};
+ghost use Rattle.std.specs.Prelude.{◌≡◌, ◌<◌, ◌++◌, ◌∷◌, [], map, vec_len, slice_set, slice_index_or, IfOk, OnOk};
 ghost use Rattle.slice_join.specs.Groups as specs;
 ghost use Rattle.slice_join.specs.Groups.{entries_of, is_slice_type};
 ghost use Rattle.slice_join.specs.Inner.Places.{begun, with_slice, with_file, ArePlaces};

@@ -1,6 +1,6 @@
 //! Slices joined to files.
 
-ghost use Rattle.std.specs.Prelude.{◌≡◌, ◌≤◌, ◌∷◌, ◌++◌, [], ℕ, true, false, map, unwrap_or, Some, None, not, length, if◌then◌else◌, ◌==◌, List, IfOk, IfErr, OnOk, OnErr, IsTrue};
+ghost use Rattle.std.specs.Prelude.{◌≡◌, ◌≤◌, ◌∷◌, ◌++◌, [], ℕ, true, false, map, unwrap_or, Some, None, not, if◌then◌else◌, ◌==◌, List, IfOk, IfErr, OnOk, OnErr};
 ghost use Rattle.std.specs.BTreeMap.{get};
 ghost use Rattle.std.specs.List.{flat_map};
 ghost use Rattle.std.specs.Option.{option_and_then, option_copied, option_eq, option_map, is_some};

@@ -3,7 +3,7 @@
 ghost use Rattle.std.specs.Prelude.{◌≡◌, ℕ, List, Option, Some, true};
 ghost use Rattle.wire_bytes.specs.Bytes.{AreBytes};
 ghost use Rattle.slice_join.specs.SliceKind.{is_slice_kind, slice_kind, whole_kind};
-ghost use Rattle.slice_join.specs.Slice.{Slice, SpellsSlice, slice_bytes, slice_in};
+ghost use Rattle.slice_join.specs.Slice.{Slice, SpellsSlice, slice_in};
 
 /// A text is the type of a slice exactly where it is that of the slices of a file with some type, or with none, and it
 /// says that type.
