@@ -1,0 +1,24 @@
+//! Laws over the definitions. They are proved, and do nothing when they are called.
+
+ghost use Rattle.std.specs.Prelude.{◌≡◌, ℕ, List, Option, Some, true};
+ghost use Rattle.wire_bytes.specs.Bytes.{AreBytes};
+ghost use Rattle.slice_join.specs.SliceKind.{is_slice_kind, slice_kind, whole_kind};
+ghost use Rattle.slice_join.specs.Slice.{Slice, SpellsSlice, slice_in};
+
+/// A text is the type of a slice exactly where it is that of the slices of a file with some type, or with none, and it
+/// says that type.
+pub fn types_of_slices()
+    ensures one { (kind : Option (List ℕ)) → (is_slice_kind (slice_kind kind) ≡ true) × (whole_kind (slice_kind kind) ≡ kind) }
+    ensures only { (text : List ℕ) → is_slice_kind text ≡ true → text ≡ slice_kind (whole_kind text) }
+{}
+
+/// A body says one slice at most.
+pub fn one_slice_in_a_body()
+    ensures { (body : List ℕ) (s t : Slice) → SpellsSlice body s → SpellsSlice body t → s ≡ t }
+{}
+
+/// A body is read as a slice exactly where it says that slice.
+pub fn written_is_read()
+    ensures read { (body : List ℕ) (s : Slice) → SpellsSlice body s → slice_in body ≡ Some s }
+    ensures says { (body : List ℕ) (s : Slice) → AreBytes body → slice_in body ≡ Some s → SpellsSlice body s }
+{}

@@ -1,0 +1,6 @@
+//! Cuts, and groups of slices.
+
+mod cuts;
+mod files;
+mod joins;
+mod same;
