@@ -11,17 +11,22 @@ pub length_body : (s : Slice) → length (slice_bytes s) ≡ 16 + length s.part
 length_body s = omega arith
 
 -- what is written is what is read
-pub read_again : (s : Slice) → s.place < 2 ^ 32 → s.count < 2 ^ 32 → s.total < 2 ^ 64 → slice_in (slice_bytes s) ≡ Some s
-unfolding slice_in
-read_again s place count total =
-    let long : nat_lt (length (slice_bytes s)) head_length ≡ false = let size = length_body s in grind (arith, nat_tests) in
+pub said_again : (s : Slice) → s.place < 2 ^ 32 → s.count < 2 ^ 32 → s.total < 2 ^ 64 → slice_of (slice_bytes s) ≡ s
+said_again s place count total =
     let p : big_number 4 (slice_bytes s) ≡ s.place = big_number-reads_back 4 s.place (drop 4 (slice_bytes s)) place in
     let c : big_number 4 (drop 4 (slice_bytes s)) ≡ s.count = big_number-reads_back 4 s.count (drop 8 (slice_bytes s)) count in
     let t : big_number 8 (drop 8 (slice_bytes s)) ≡ s.total = big_number-reads_back 8 s.total s.part total in
-    ap (λ b. cond b None (Some (slice_of (slice_bytes s)))) long
-    ∙ ap (λ x. Some (record { place = x; count = big_number 4 (drop 4 (slice_bytes s)); total = big_number 8 (drop 8 (slice_bytes s)); part = s.part })) p
-    ∙ ap (λ x. Some (record { place = s.place; count = x; total = big_number 8 (drop 8 (slice_bytes s)); part = s.part })) c
-    ∙ ap (λ x. Some (record { place = s.place; count = s.count; total = x; part = s.part })) t
+    ap (λ x. record { place = x; count = big_number 4 (drop 4 (slice_bytes s)); total = big_number 8 (drop 8 (slice_bytes s)); part = s.part }) p
+    ∙ ap (λ x. record { place = s.place; count = x; total = big_number 8 (drop 8 (slice_bytes s)); part = s.part }) c
+    ∙ ap (λ x. record { place = s.place; count = s.count; total = x; part = s.part }) t
+
+pub long_enough : (s : Slice) → nat_lt (length (slice_bytes s)) head_length ≡ false
+long_enough s = let size = length_body s in grind (arith, nat_tests)
+
+read_again : (s : Slice) → s.place < 2 ^ 32 → s.count < 2 ^ 32 → s.total < 2 ^ 64 → slice_in (slice_bytes s) ≡ Some s
+unfolding slice_in
+read_again s place count total =
+    ap (λ b. cond b None (Some (slice_of (slice_bytes s)))) (long_enough s) ∙ ap Some (said_again s place count total)
 
 pub spelled_read : (body : List ℕ) (s : Slice) → SpellsSlice body s → slice_in body ≡ Some s
 spelled_read body s h = ap slice_in h.joined ∙ read_again s h.place h.count h.total

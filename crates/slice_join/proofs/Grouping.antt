@@ -10,10 +10,10 @@ use Rattle.slice_join.specs.Inner.Places.{begun, with_slice, with_file, is_under
 
 -- ---- what belongs together
 
-record Together (f g : FileOf) : Type 0 where
-  one : is_slice f ≡ true
-  other : is_slice g ≡ true
-  place : f.location ≡ g.location
+pub record Together (f g : FileOf) : Type 0 where
+  pub one : is_slice f ≡ true
+  pub other : is_slice g ≡ true
+  pub place : f.location ≡ g.location
 
 both : (a b : Bool) → (a && b) ≡ true → (a ≡ true) × (b ≡ true)
 both true b e = (refl, e)
@@ -32,7 +32,7 @@ says f g e =
     let second = both (is_slice g) (bytes_eq f.location g.location) first.1 in
     record { one = first.0; other = second.0; place = same_text f.location g.location second.1 }
 
-made : (f g : FileOf) → Together f g → belong f g ≡ true
+pub made : (f g : FileOf) → Together f g → belong f g ≡ true
 unfolding belong
 made f g t = rw (t.one, t.other, text_same f.location g.location t.place) refl
 

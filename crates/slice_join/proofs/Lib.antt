@@ -5,3 +5,5 @@ pub mod Grouping
 pub mod Walks
 pub mod Trees
 pub mod FirstFaults
+pub mod Orders
+pub mod AnyOrder

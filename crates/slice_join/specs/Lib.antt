@@ -4,4 +4,5 @@ pub mod Cut
 pub mod Groups
 pub mod Faults
 pub mod Joins
+pub mod Carried
 pub mod Inner
