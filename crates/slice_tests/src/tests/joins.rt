@@ -153,7 +153,8 @@ fn short_bodies_and_types(rt: HostRuntime) -> Result<(), Fail> {
     let first = body(alloc, (1, 2, 2, b"a"))?;
     let second = body(alloc, (2, 2, 2, b"b"))?;
     let slice = ("a", Some("fcast-slice"), first.as_slice());
-    let short = ("a", Some("fcast-slice"), first.as_slice().split_at(15).0);
+    let cut_off: &[u8] = b"\0\0\0\x01\0\0\0\x02\0\0\0\0\0\0\0";
+    let short = ("a", Some("fcast-slice"), cut_off);
     let other = ("a", Some("fcast-slice;"), second.as_slice());
     let bad = three(alloc, slice, slice, short)?;
     let fault = JoinFault::Header { toi: 3 };
